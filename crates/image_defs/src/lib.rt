@@ -1,0 +1,2 @@
+//! What an image says, as programs that ask for its bytes.
+#![tactic(auto)]
