@@ -1,0 +1,16 @@
+-- Streams of bytes: what a source still gives, and what a sink took.
+use Rattle.std.specs.Prelude.{◌≡◌, ℕ, ◌≤◌, Option, None, Some, List, ◌++◌, length, take, drop}
+use Rattle.std.specs.Option.{option_map}
+
+-- the first `count` bytes that were still to come stand in the buffer's first places
+abbrev pub GivesFirst : Option (List ℕ) → List ℕ → ℕ → Type 0
+GivesFirst None buffer count = Unit {0}
+GivesFirst (Some rest) buffer count = (count ≤ length rest) × (take count buffer ≡ take count rest)
+
+-- what is still to come after `count` bytes
+abbrev pub rest_after : Option (List ℕ) → ℕ → Option (List ℕ)
+rest_after rest count = option_map (drop count) rest
+
+-- what was taken after these bytes came too
+abbrev pub taken_with : Option (List ℕ) → List ℕ → Option (List ℕ)
+taken_with taken bytes = option_map (λ before. before ++ bytes) taken

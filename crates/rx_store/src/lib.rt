@@ -1,0 +1,11 @@
+//! The outside: a store with an image and a journal, a source of text, and a sink for it.
+#![tactic(auto)]
+
+pub mod sink;
+pub mod source;
+pub mod store;
+
+pub use disk_defs::{Area, Fault};
+pub use sink::Sink;
+pub use source::Source;
+pub use store::Store;

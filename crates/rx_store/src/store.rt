@@ -1,0 +1,33 @@
+//! The store.
+ghost use Rattle.std.specs.Prelude.{◌≡◌, ◌+◌, ◌≤◌, ℕ, length, IfOk, OnOk, OnErr};
+ghost use Rattle.disk_defs.specs.Disk.{State, size_of, ReadsFrom, TellsItsSizes};
+ghost use Rattle.disk_defs.specs.Count.{Rose};
+
+use disk_defs::{Area, Fault};
+
+/// A disk with an image and a journal. Its calls may fail; each failure is counted.
+pub trait Store {
+    /// The sizes of both areas, and what they hold where the store tells that.
+    ghost state: { Self → State };
+
+    /// How many calls have failed. The count never falls.
+    ghost faults: { Self → ℕ };
+
+    /// The size of an area, in bytes.
+    fn len(&mut self, area: Area) -> Result<u64, Fault>
+        ensures size { IfOk result (λ size. size ≡ size_of area (state self.old)) }
+        ensures same { state self.new ≡ state self.old }
+        ensures counts { faults self.old ≤ faults self.new }
+        ensures cause { OnErr result (Rose (faults self.old) (faults self.new)) };
+
+    /// Reads the bytes of an area from `at` on into the whole buffer. After a fault the buffer has any bytes.
+    fn read_at(&mut self, area: Area, at: u64, buf: &mut [u8]) -> Result<(), Fault>
+        requires { at + length buf.old ≤ size_of area (state self.old) }
+        ensures bytes { OnOk result (ReadsFrom area at (state self.old) buf.new) }
+        ensures same { state self.new ≡ state self.old }
+        ensures counts { faults self.old ≤ faults self.new }
+        ensures cause { OnErr result (Rose (faults self.old) (faults self.new)) };
+
+    /// What it tells has the sizes of the areas.
+    ghost tells_its_sizes: { (store : Self) → TellsItsSizes (state store) };
+}
