@@ -1,0 +1,4 @@
+pub mod Covering
+pub mod Order
+pub mod Path
+pub mod Within

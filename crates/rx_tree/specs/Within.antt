@@ -1,0 +1,23 @@
+-- What a tree says lies inside its image.
+use Rattle.std.specs.Prelude.{ℕ, ◌+◌, ◌≤◌, All, List}
+use Rattle.range_defs.specs.declared.Range.{Range}
+use Rattle.rx_ranges.specs.declared.pieces.Piece.{Piece}
+use Rattle.rx_tree.specs.declared.part.Part.{Part}
+use Rattle.rx_tree.specs.declared.file.FileEntry.{FileEntry}
+use Rattle.rx_tree.specs.declared.volume.Volume.{Volume}
+
+-- ranges that end at most at a byte
+abbrev pub AreRangesWithin : ℕ → List Range → Type 0
+AreRangesWithin len = All (λ range. range.at + range.len ≤ len)
+
+abbrev pub ArePiecesWithin : ℕ → List Piece → Type 0
+ArePiecesWithin len = All (λ piece. piece.at + piece.len ≤ len)
+
+abbrev pub ArePartsWithin : ℕ → List Part → Type 0
+ArePartsWithin len = All (λ part. ArePiecesWithin len part.pieces × AreRangesWithin len part.slack)
+
+abbrev pub AreFilesWithin : ℕ → List FileEntry → Type 0
+AreFilesWithin len = All (λ file. ArePartsWithin len file.parts)
+
+abbrev pub AreVolumesWithin : ℕ → List Volume → Type 0
+AreVolumesWithin len = All (λ volume. volume.at + volume.len ≤ len)

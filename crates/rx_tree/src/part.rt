@@ -1,0 +1,62 @@
+//! The parts of a file: its content, and what else it has in the image.
+ghost use Rattle.std.specs.Prelude.{◌≡◌, IsTrue};
+ghost use Rattle.rx_tree.specs.Covering.{ArePiecesOf};
+
+use std::marker::Model;
+
+use rx_ranges::{Pieces, RangeList, Text};
+
+/// What a part is to its file.
+#[derive(Clone, Copy, Debug, PartialEq, Eq)]
+pub enum Role {
+    /// Its bytes are what a reader of the file gets.
+    Content,
+    /// The file system keeps it beside the content.
+    Other,
+}
+
+/// A part of a file: `size` bytes that its pieces give, and the slack, which is what is allocated for the part and
+/// isn't content. Sizes are in bytes.
+///
+/// The pieces of a readable part cover its bytes in order, and are the longest possible.
+#[derive(Debug, Drop)]
+pub struct Part {
+    pub role: Role,
+    pub name: Text,
+    pub size: u64,
+    pub pieces: Pieces,
+    pub slack: RangeList,
+    pub unreadable: bool,
+    ghost covering: { ArePiecesOf unreadable size pieces },
+}
+
+/// The parts of a file.
+#[derive(Debug, Drop)]
+pub struct Parts {
+    parts: Vec<Part>,
+}
+
+impl Model for Parts {
+    ghost use Rattle.std.specs.Prelude.{List};
+    ghost use Rattle.rx_tree.specs.declared.part.Part.{Part};
+
+    ghost Value = { List Part };
+
+    ghost view = { λ p. p.parts.items };
+}
+
+impl Parts {
+    /// These parts.
+    pub fn from_vec(items: Vec<Part>) -> Self
+        ensures { result ≡ items.items }
+    {
+        Parts { parts: items }
+    }
+
+    /// The parts in order.
+    pub fn items(&self) -> &[Part]
+        ensures { result.now ≡ self.now }
+    {
+        self.parts.as_slice()
+    }
+}
