@@ -2,7 +2,8 @@
 use Rattle.std.specs.Prelude.{ℕ, ◌+◌, ◌≤◌, All, List}
 use Rattle.range_defs.specs.declared.Range.{Range}
 use Rattle.rx_ranges.specs.declared.pieces.Piece.{Piece}
-use Rattle.rx_tree.specs.declared.part.Part.{Part}
+use Rattle.rx_tree.specs.FoundPart.{FoundPart}
+use Rattle.rx_tree.specs.FoundTree.{FoundTree}
 use Rattle.rx_tree.specs.declared.file.FileEntry.{FileEntry}
 use Rattle.rx_tree.specs.declared.volume.Volume.{Volume}
 
@@ -13,7 +14,7 @@ AreRangesWithin len = All (λ range. range.at + range.len ≤ len)
 abbrev pub ArePiecesWithin : ℕ → List Piece → Type 0
 ArePiecesWithin len = All (λ piece. piece.at + piece.len ≤ len)
 
-abbrev pub ArePartsWithin : ℕ → List Part → Type 0
+abbrev pub ArePartsWithin : ℕ → List FoundPart → Type 0
 ArePartsWithin len = All (λ part. ArePiecesWithin len part.pieces × AreRangesWithin len part.slack)
 
 abbrev pub AreFilesWithin : ℕ → List FileEntry → Type 0
@@ -21,3 +22,11 @@ AreFilesWithin len = All (λ file. ArePartsWithin len file.parts)
 
 abbrev pub AreVolumesWithin : ℕ → List Volume → Type 0
 AreVolumesWithin len = All (λ volume. volume.at + volume.len ≤ len)
+
+-- a tree's image has at most 2^46 bytes, and all that the tree says lies in it
+pub record IsWithin (tree : FoundTree) : Type 0 where
+  pub in_reach : tree.image_len ≤ 70368744177664
+  pub volumes : AreVolumesWithin tree.image_len tree.volumes
+  pub unread : AreRangesWithin tree.image_len tree.unread
+  pub files : AreFilesWithin tree.image_len tree.files
+  pub guard : AreRangesWithin tree.image_len tree.guard

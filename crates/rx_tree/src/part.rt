@@ -1,6 +1,5 @@
 //! The parts of a file: its content, and what else it has in the image.
-ghost use Rattle.std.specs.Prelude.{◌≡◌, IsTrue};
-ghost use Rattle.rx_tree.specs.Covering.{ArePiecesOf};
+ghost use Rattle.std.specs.Prelude.{◌≡◌};
 
 use std::marker::Model;
 
@@ -27,7 +26,24 @@ pub struct Part {
     pub pieces: Pieces,
     pub slack: RangeList,
     pub unreadable: bool,
-    ghost covering: { ArePiecesOf unreadable size pieces },
+}
+
+impl Model for Part {
+    ghost use Rattle.rx_tree.specs.FoundPart.{FoundPart};
+    ghost use Rattle.rx_tree.specs.Covering.{ArePiecesOf};
+
+    ghost Value = { FoundPart };
+
+    ghost view = { λ p. record {
+        role = p.role;
+        name = p.name;
+        size = p.size;
+        pieces = p.pieces;
+        slack = p.slack;
+        unreadable = p.unreadable;
+    } };
+
+    ghost invariant = { λ p. ArePiecesOf p.unreadable p.size p.pieces };
 }
 
 /// The parts of a file.
@@ -38,9 +54,9 @@ pub struct Parts {
 
 impl Model for Parts {
     ghost use Rattle.std.specs.Prelude.{List};
-    ghost use Rattle.rx_tree.specs.declared.part.Part.{Part};
+    ghost use Rattle.rx_tree.specs.FoundPart.{FoundPart};
 
-    ghost Value = { List Part };
+    ghost Value = { List FoundPart };
 
     ghost view = { λ p. p.parts.items };
 }

@@ -1,6 +1,5 @@
 //! The tree of an image.
-ghost use Rattle.std.specs.Prelude.{◌≤◌};
-ghost use Rattle.rx_tree.specs.Within.{AreFilesWithin, AreRangesWithin, AreVolumesWithin};
+use std::marker::Model;
 
 use rx_ranges::RangeList;
 
@@ -16,9 +15,27 @@ pub struct Tree {
     pub unread: RangeList,
     pub files: Files,
     pub guard: RangeList,
-    ghost image_in_reach: { image_len ≤ 70368744177664 },
-    ghost volumes_within: { AreVolumesWithin image_len volumes },
-    ghost unread_within: { AreRangesWithin image_len unread },
-    ghost files_within: { AreFilesWithin image_len files },
-    ghost guard_within: { AreRangesWithin image_len guard },
+}
+
+impl Model for Tree {
+    ghost use Rattle.rx_tree.specs.FoundTree.{FoundTree};
+    ghost use Rattle.rx_tree.specs.Within.{IsWithin};
+
+    ghost Value = { FoundTree };
+
+    ghost view = { λ t. record {
+        image_len = t.image_len;
+        volumes = t.volumes;
+        unread = t.unread;
+        files = t.files;
+        guard = t.guard;
+    } };
+
+    ghost invariant = { λ t. IsWithin (record {
+        image_len = t.image_len;
+        volumes = t.volumes;
+        unread = t.unread;
+        files = t.files;
+        guard = t.guard;
+    }) };
 }
