@@ -16,13 +16,13 @@ abbrev pub BeginsFrom : ℕ → List Range → Type 0
 BeginsFrom byte [] = Unit {0}
 BeginsFrom byte (range ∷ ranges) = byte ≤ range.at
 
-in_range-before : (range : Range) (byte : ℕ) → byte < range.at → in_range range byte ≡ false
+pub in_range-before : (range : Range) (byte : ℕ) → byte < range.at → in_range range byte ≡ false
 in_range-before range byte before = grind (arith, nat_tests)
 
-in_range-inside : (range : Range) (byte : ℕ) → range.at ≤ byte → byte < range.at + range.len → in_range range byte ≡ true
+pub in_range-inside : (range : Range) (byte : ℕ) → range.at ≤ byte → byte < range.at + range.len → in_range range byte ≡ true
 in_range-inside range byte begun inside = grind (arith, nat_tests)
 
-in_range-behind : (range : Range) (byte : ℕ) → range.at + range.len ≤ byte → in_range range byte ≡ false
+pub in_range-behind : (range : Range) (byte : ℕ) → range.at + range.len ≤ byte → in_range range byte ≡ false
 in_range-behind range byte behind = grind (arith, nat_tests)
 
 -- no byte in front of a canonical list is in it
@@ -99,7 +99,7 @@ abbrev AreLongest : (ℕ → Bool) → ℕ → ℕ → ℕ → Type 0
 AreLongest test from count end = (ranges : List Range) → IsRangeList ranges → BeginsFrom from ranges → All (EndsBy end) ranges
     → AgreeFrom from end (covers ranges) test → ranges ≡ longest_ranges test from count
 
--- where the list begins with the byte
+-- where the first range is the first byte alone, the others are the longest behind it
 longest-one : (test : ℕ → Bool) (from count end : ℕ) (range : Range) (ranges : List Range) → range.len ≡ 1 → range.at ≡ from
     → AreLongest test (suc from) count end → IsRangeList (range ∷ ranges) → All (EndsBy end) (range ∷ ranges)
     → AgreeFrom from end (covers (range ∷ ranges)) test → ranges ≡ longest_ranges test (suc from) count
@@ -107,6 +107,7 @@ longest-one test from count end range ranges one begun later kept within agree =
     later ranges kept.2 (begins_from (suc from) (range.at + range.len) ranges (omega arith) kept.1) (All-tail (EndsBy end) range ranges within)
         (λ byte low high. sym (covers-after range ranges byte (omega arith)) ∙ agree byte (omega arith) high)
 
+-- where the first range is longer, its other bytes and the other ranges are the longest behind the first byte
 longest-long : (test : ℕ → Bool) (from count end : ℕ) (range : Range) (ranges : List Range) → 1 < range.len → range.at ≡ from
     → AreLongest test (suc from) count end → IsRangeList (range ∷ ranges) → All (EndsBy end) (range ∷ ranges)
     → AgreeFrom from end (covers (range ∷ ranges)) test → shorter range ∷ ranges ≡ longest_ranges test (suc from) count
