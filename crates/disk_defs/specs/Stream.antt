@@ -14,3 +14,7 @@ rest_after rest count = option_map (drop count) rest
 -- what was taken after these bytes came too
 abbrev pub taken_with : Option (List ℕ) → List ℕ → Option (List ℕ)
 taken_with taken bytes = option_map (λ before. before ++ bytes) taken
+
+-- of a piece that was to be taken whole, some first bytes were taken and no more
+abbrev pub TookPrefixOf : Option (List ℕ) → Option (List ℕ) → List ℕ → Type 0
+TookPrefixOf before after bytes = (count : ℕ) × (count ≤ length bytes) × (after ≡ taken_with before (take count bytes))
