@@ -4,8 +4,10 @@
 pub mod sink;
 pub mod source;
 pub mod store;
+pub mod whole;
 
 pub use disk_defs::{Area, Fault};
-pub use sink::Sink;
+pub use sink::{Sink, write_all};
 pub use source::Source;
 pub use store::Store;
+pub use whole::{ReadError, read_to_end};
