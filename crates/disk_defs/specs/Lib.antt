@@ -1,3 +1,4 @@
 pub mod Disk
 pub mod Count
 pub mod Stream
+pub mod Memory

@@ -14,3 +14,15 @@ rest_after rest count = option_map (drop count) rest
 -- what was taken after these bytes came too
 abbrev pub taken_with : Option (List ℕ) → List ℕ → Option (List ℕ)
 taken_with taken bytes = option_map (λ before. before ++ bytes) taken
+
+-- of a piece that was to be taken whole, some first bytes were taken and no more
+abbrev pub TookPrefixOf : Option (List ℕ) → Option (List ℕ) → List ℕ → Type 0
+TookPrefixOf before after bytes = (count : ℕ) × (count ≤ length bytes) × (after ≡ taken_with before (take count bytes))
+
+-- some first bytes of what was still to come have come
+abbrev pub IsPartlyRead : Option (List ℕ) → Option (List ℕ) → Type 0
+IsPartlyRead before after = (count : ℕ) × (after ≡ rest_after before count)
+
+-- a text and what is to come after it are what was to come before
+abbrev pub ReadSoFar : Option (List ℕ) → Option (List ℕ) → List ℕ → Type 0
+ReadSoFar before after text = before ≡ option_map (λ rest. text ++ rest) after

@@ -1,11 +1,18 @@
 //! The outside: a store with an image and a journal, a source of text, and a sink for it.
 #![tactic(auto)]
 
+pub mod mem_store;
 pub mod sink;
 pub mod source;
 pub mod store;
+pub mod whole;
 
 pub use disk_defs::{Area, Fault};
-pub use sink::Sink;
+pub use mem_store::MemStore;
+pub use sink::{Sink, write_all};
 pub use source::Source;
 pub use store::Store;
+pub use whole::{ReadError, read_to_end};
+
+/// Memory ran out.
+pub type NoMemory = std::alloc::AllocError;

@@ -1,6 +1,6 @@
 //! The sink for a text.
-ghost use Rattle.std.specs.Prelude.{◌≡◌, ◌<◌, ◌≤◌, ℕ, List, Option, length, take, IfOk, OnErr};
-ghost use Rattle.disk_defs.specs.Stream.{taken_with};
+ghost use Rattle.std.specs.Prelude.{◌≡◌, ◌<◌, ◌≤◌, ℕ, List, Option, length, take, IfOk, OnOk, OnErr};
+ghost use Rattle.disk_defs.specs.Stream.{taken_with, TookPrefixOf};
 ghost use Rattle.disk_defs.specs.Count.{Rose};
 
 use disk_defs::Fault;
@@ -21,4 +21,18 @@ pub trait Sink {
         ensures fault { OnErr result (taken self.new ≡ taken self.old) }
         ensures counts { faults self.old ≤ faults self.new }
         ensures cause { OnErr result (Rose (faults self.old) (faults self.new)) };
+}
+
+/// Writes a whole text, in as many writes as the sink wants. After a fault the sink took some first bytes of it.
+pub fn write_all<K: Sink>(sink: &mut K, bytes: &[u8]) -> Result<(), Fault>
+    ensures taken { OnOk result (K.taken sink.new ≡ taken_with (K.taken sink.old) bytes.now) }
+    ensures prefix { OnErr result (TookPrefixOf (K.taken sink.old) (K.taken sink.new) bytes.now) }
+    ensures counts { K.faults sink.old ≤ K.faults sink.new }
+    ensures cause { OnErr result (Rose (K.faults sink.old) (K.faults sink.new)) }
+{
+    let mut done = 0;
+    while done < bytes.len() {
+        done += sink.write(&bytes[done..])?;
+    }
+    Ok(())
 }

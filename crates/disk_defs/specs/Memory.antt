@@ -1,0 +1,28 @@
+-- A store, a source and a sink in memory: what contracts see of them.
+use Rattle.std.specs.Prelude.{ℕ, Some, List, [], length, Result, refl}
+use Rattle.disk_defs.specs.Count.{one_more, faults_after}
+use Rattle.disk_defs.specs.Disk.{Sizes, Held, State, TellsItsSizes}
+use Rattle.disk_defs.specs.declared.Area.TheVariants.{Image, Journal}
+
+-- a store in memory: what it holds, the numbers of the calls that fail, and how many calls were made and failed
+pub record StoreInMemory : Type 0 where
+  pub held : Held
+  pub failing : List ℕ
+  pub calls : ℕ
+  pub faults : ℕ
+
+-- a store with these bytes, before its first call
+abbrev pub store_holding : List ℕ → List ℕ → StoreInMemory
+store_holding image journal = record { held = record { image = image; journal = journal }; failing = []; calls = 0; faults = 0 }
+
+-- a store in memory tells all that it holds
+abbrev pub state_in_memory : StoreInMemory → State
+state_in_memory store = record { sizes = record { image = length store.held.image; journal = length store.held.journal }; told = Some store.held }
+
+pub tells_its_sizes_in_memory : (store : StoreInMemory) → TellsItsSizes (state_in_memory store)
+tells_its_sizes_in_memory store Image = refl
+tells_its_sizes_in_memory store Journal = refl
+
+-- a store after a call with this result that changed nothing
+abbrev pub after_call : {T E : Type 0} → Result T E → StoreInMemory → StoreInMemory
+after_call result store = record store { calls = one_more store.calls; faults = faults_after result store.faults }
