@@ -1,2 +1,4 @@
 pub mod Bytes
 pub mod Ask
+pub mod Runs
+pub mod Agreement
