@@ -1,11 +1,11 @@
 -- Images that agree where a program looks, and the law that the program then gives the same.
-use Rattle.std.specs.Prelude.{◌≡◌, ℕ, zero, suc, ◌+◌, ◌-◌, ◌<◌, ◌≤◌, Bool, true, false, ◌&&◌, ◌||◌, IsTrue, nat_le, nat_lt, Result, Ok, Err, Option, Some, None, List, [], ◌∷◌, ◌++◌, length, take, drop, slice_get, unwrap_or, refl}
+use Rattle.std.specs.Prelude.{◌≡◌, ℕ, ◌+◌, ◌<◌, ◌≤◌, IsTrue, List, ◌∷◌, length, take, drop, slice_get, unwrap_or, refl}
 use Rattle.std.proofs.Common.{ap, sym, ◌∙◌, arith}
 use Rattle.std.proofs.lemmas.Bool.Decides.{nat_tests}
 use Rattle.std.proofs.lemmas.List.{ext_get_or, get_or-take, get_or-drop, length-take, length-drop}
 use Rattle.std.proofs.lemmas.Option.{unwrap_or-slice_get}
 use Rattle.range_defs.specs.declared.Range.{Range}
-use Rattle.range_defs.specs.Places.{in_range, covers}
+use Rattle.range_defs.specs.Places.{covers}
 use Rattle.image_defs.specs.Bytes.{part}
 use Rattle.image_defs.specs.Ask.{Ask, Done, Stop, Look, run, visits}
 
@@ -29,9 +29,9 @@ part_agree a b at len same_length same_bytes =
     ext_get_or 0 (take len (drop at a)) (take len (drop at b))
     (simp (length-take, length-drop, same_length) refl)
     (λ i within.
-        let below : i < len = omega (arith, within, length-take len (drop at a)) in
-        rw (get_or-take len (drop at a) i 0 below, get_or-take len (drop at b) i 0 below, get_or-drop at a i 0, get_or-drop at b i 0)
-        (sym (unwrap_or-slice_get a (at + i) 0) ∙ ap (λ byte. unwrap_or byte 0) (same_bytes (at + i) (omega arith) (omega arith)) ∙ unwrap_or-slice_get b (at + i) 0))
+    let below : i < len = omega (arith, within, length-take len (drop at a)) in
+    rw (get_or-take len (drop at a) i 0 below, get_or-take len (drop at b) i 0 below, get_or-drop at a i 0, get_or-drop at b i 0)
+    (sym (unwrap_or-slice_get a (at + i) 0) ∙ ap (λ byte. unwrap_or byte 0) (same_bytes (at + i) (omega arith) (omega arith)) ∙ unwrap_or-slice_get b (at + i) 0))
 
 -- agreement on the ranges behind
 agree_behind : (range : Range) (ranges : List Range) (a b : List ℕ) → AgreeOn (range ∷ ranges) a b → AgreeOn ranges a b
@@ -61,3 +61,10 @@ visits_agree (Stop e) a b agree = refl
 visits_agree (Look at len next) a b agree =
     ap (λ bytes. record { at = at; len = len } ∷ visits b (next bytes)) (sym (part_first (record { at = at; len = len }) (visits a (next (part a at len))) a b agree))
     ∙ ap (λ ranges. record { at = at; len = len } ∷ ranges) (visits_agree (next (part a at len)) a b (agree_behind (record { at = at; len = len }) (visits a (next (part a at len))) a b agree))
+
+-- the law, for all programs with these faults and values
+abbrev pub FootprintLaw : Type 0 → Type 0 → Type 0
+FootprintLaw E X = (ask : Ask E X) (a b : List ℕ) → AgreeOn (visits a ask) a b → (run b ask ≡ run a ask) × (visits b ask ≡ visits a ask)
+
+pub footprint_law : (E X : Type 0) → FootprintLaw E X
+footprint_law E X ask a b agree = (run_agree ask a b agree, visits_agree ask a b agree)
