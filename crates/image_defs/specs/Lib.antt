@@ -2,3 +2,4 @@ pub mod Bytes
 pub mod Ask
 pub mod Runs
 pub mod Agreement
+pub mod Numbers
