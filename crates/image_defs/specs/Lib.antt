@@ -1,2 +1,5 @@
 pub mod Bytes
 pub mod Ask
+pub mod Runs
+pub mod Agreement
+pub mod Numbers
