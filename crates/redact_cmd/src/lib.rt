@@ -1,0 +1,4 @@
+//! The commands.
+#![tactic(auto)]
+
+mod report;
