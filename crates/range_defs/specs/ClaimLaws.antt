@@ -18,10 +18,10 @@ abbrev pub BeginsFrom : ℕ → List Claim → Type 0
 BeginsFrom byte [] = Unit {0}
 BeginsFrom byte (claim ∷ claims) = byte ≤ claim.range.at
 
-paint_of-out : (claim : Claim) (byte : ℕ) → in_range claim.range byte ≡ false → paint_of claim byte ≡ None
+pub paint_of-out : (claim : Claim) (byte : ℕ) → in_range claim.range byte ≡ false → paint_of claim byte ≡ None
 paint_of-out claim byte out = rw out refl
 
-paint_of-in : (claim : Claim) (byte : ℕ) → in_range claim.range byte ≡ true → paint_of claim byte ≡ Some (claim.rule, claim.fill)
+pub paint_of-in : (claim : Claim) (byte : ℕ) → in_range claim.range byte ≡ true → paint_of claim byte ≡ Some (claim.rule, claim.fill)
 paint_of-in claim byte inside = rw inside refl
 
 begins_from : (byte end rule : ℕ) (claims : List Claim) → byte ≤ end → BeginsApart end rule claims → BeginsFrom byte claims
@@ -40,10 +40,10 @@ painted-before (claim ∷ claims) byte kept before =
     painted-before claims byte kept.2 (begins_from (suc byte) (claim.range.at + claim.range.len) claim.rule claims (omega (arith, before)) kept.1) in
     rw (paint_of-out claim byte (in_range-before claim.range byte before)) rest
 
-painted-after : (claim : Claim) (claims : List Claim) (byte : ℕ) → claim.range.at + claim.range.len ≤ byte → painted (claim ∷ claims) byte ≡ painted claims byte
+pub painted-after : (claim : Claim) (claims : List Claim) (byte : ℕ) → claim.range.at + claim.range.len ≤ byte → painted (claim ∷ claims) byte ≡ painted claims byte
 painted-after claim claims byte behind = rw (paint_of-out claim byte (in_range-behind claim.range byte behind)) refl
 
-painted-inside : (claim : Claim) (claims : List Claim) (byte : ℕ) → IsFillMap (claim ∷ claims) → claim.range.at ≤ byte → byte < claim.range.at + claim.range.len
+pub painted-inside : (claim : Claim) (claims : List Claim) (byte : ℕ) → IsFillMap (claim ∷ claims) → claim.range.at ≤ byte → byte < claim.range.at + claim.range.len
     → painted (claim ∷ claims) byte ≡ Some (claim.rule, claim.fill)
 painted-inside claim claims byte kept begun inside =
     let rest : painted claims byte ≡ None =

@@ -33,10 +33,10 @@ covers-before (range ∷ next ∷ ranges) byte kept before =
     let rest : covers (next ∷ ranges) byte ≡ false = covers-before (next ∷ ranges) byte kept.2 (omega (arith, kept.1, kept.0)) in
     rw (in_range-before range byte before) rest
 
-covers-after : (range : Range) (ranges : List Range) (byte : ℕ) → range.at + range.len ≤ byte → covers (range ∷ ranges) byte ≡ covers ranges byte
+pub covers-after : (range : Range) (ranges : List Range) (byte : ℕ) → range.at + range.len ≤ byte → covers (range ∷ ranges) byte ≡ covers ranges byte
 covers-after range ranges byte behind = rw (in_range-behind range byte behind) refl
 
-covers-inside : (range : Range) (ranges : List Range) (byte : ℕ) → range.at ≤ byte → byte < range.at + range.len → covers (range ∷ ranges) byte ≡ true
+pub covers-inside : (range : Range) (ranges : List Range) (byte : ℕ) → range.at ≤ byte → byte < range.at + range.len → covers (range ∷ ranges) byte ≡ true
 covers-inside range ranges byte begun inside = rw (in_range-inside range byte begun inside) refl
 
 -- the range with its first byte left out
