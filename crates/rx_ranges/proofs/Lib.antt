@@ -1,0 +1,4 @@
+pub mod Adding
+pub mod Gathering
+pub mod Meeting
+pub mod Holding
