@@ -1,6 +1,8 @@
 //! The outside: a store with an image and a journal, a source of text, and a sink for it.
 #![tactic(auto)]
 
+pub mod mem_sink;
+pub mod mem_source;
 pub mod mem_store;
 pub mod sink;
 pub mod source;
@@ -8,6 +10,8 @@ pub mod store;
 pub mod whole;
 
 pub use disk_defs::{Area, Fault};
+pub use mem_sink::MemSink;
+pub use mem_source::MemSource;
 pub use mem_store::MemStore;
 pub use sink::{Sink, write_all};
 pub use source::Source;
