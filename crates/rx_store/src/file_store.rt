@@ -1,6 +1,8 @@
 //! The store over real files.
-ghost use Rattle.std.specs.Prelude.{◌≡◌, ◌≤◌, ◌+◌, length, IfOk};
-ghost use Rattle.rx_store.specs.Opened.{IsEmptyUnlessOpen};
+ghost use Rattle.std.specs.Prelude.{◌≡◌, ◌≤◌, ◌+◌, ◌↔◌, length, IfOk, OnOk, OnErr, IsOk, IsErr, IsTrue};
+ghost use Rattle.disk_defs.specs.Disk.{size_of, ReadsFrom};
+ghost use Rattle.disk_defs.specs.Count.{Rose};
+ghost use Rattle.rx_store.specs.Files.{IsMeasured, area_file, is_absent, has_failed, file_of, state_of_files};
 
 use crate::outside::{counted, read_once};
 use crate::store::Store;
@@ -54,7 +56,7 @@ struct FileArea {
 impl FileArea {
     /// Measures a file. One that can't be measured is as one that couldn't be opened.
     fn new(opened: Opened) -> FileArea
-        ensures { IsEmptyUnlessOpen opened result.size }
+        ensures { IsMeasured opened (area_file result.opened result.size) }
     {
         match opened {
             Opened::Open(mut file) => match measure(&mut file) {
@@ -72,7 +74,9 @@ impl FileArea {
     }
 
     fn len(&self) -> Result<u64, Fault>
-        ensures { IfOk result (λ size. size ≡ self.now.size) }
+        ensures size { IfOk result (λ size. size ≡ self.now.size) }
+        ensures failed { IsTrue (has_failed self.now.opened) → IsErr result }
+        ensures only_failed { OnErr result (IsTrue (has_failed self.now.opened)) }
     {
         match &self.opened {
             Opened::Failed => Err(Fault),
@@ -80,13 +84,16 @@ impl FileArea {
         }
     }
 
+    /// Of an area that isn't there only nothing can be asked.
     fn read_at(&mut self, at: u64, buf: &mut [u8]) -> Result<(), Fault>
-        ensures { self.new.size ≡ self.old.size }
+        ensures same { area_file self.new.opened self.new.size ≡ area_file self.old.opened self.old.size }
+        ensures failed { IsTrue (has_failed self.old.opened) → IsErr result }
+        ensures absent { IsTrue (is_absent self.old.opened) → IsOk result }
     {
         match &mut self.opened {
+            Opened::Absent => Ok(()),
+            Opened::Failed => Err(Fault),
             Opened::Open(file) => read_whole(file, at, buf),
-            Opened::Absent if buf.is_empty() => Ok(()),
-            _ => Err(Fault),
         }
     }
 }
@@ -100,12 +107,13 @@ pub struct FileStore {
 }
 
 impl Model for FileStore {
-    ghost use Rattle.rx_store.specs.Files.{StoreOfFiles};
+    ghost use Rattle.rx_store.specs.Files.{StoreOfFiles, area_file};
 
     ghost Value = { StoreOfFiles };
 
     ghost view = { λ store. record {
-      sizes = record { image = store.image.size; journal = store.journal.size };
+      image = area_file store.image.opened store.image.size;
+      journal = area_file store.journal.opened store.journal.size;
       faults = store.faults;
     } };
 }
@@ -113,8 +121,8 @@ impl Model for FileStore {
 impl FileStore {
     /// A store over these files, which are measured here. Each call on a file that couldn't be opened or measured fails.
     pub fn new(image: Opened, journal: Opened) -> FileStore
-        ensures image { IsEmptyUnlessOpen image result.sizes.image }
-        ensures journal { IsEmptyUnlessOpen journal result.sizes.journal }
+        ensures image { IsMeasured image result.image }
+        ensures journal { IsMeasured journal result.journal }
         ensures faults { result.faults ≡ 0 }
     {
         FileStore {
@@ -132,7 +140,17 @@ impl Store for FileStore {
 
     ghost faults = { λ store. store.faults };
 
-    fn len(&mut self, area: Area) -> Result<u64, Fault> {
+    fn len(&mut self, area: Area) -> Result<u64, Fault>
+        ensures size { IfOk result (λ size. size ≡ size_of area (state_of_files self.old)) }
+        ensures same { state_of_files self.new ≡ state_of_files self.old }
+        ensures counts { self.old.faults ≤ self.new.faults }
+        ensures cause { OnErr result (Rose self.old.faults self.new.faults) }
+
+        // It fails exactly where the file couldn't be opened or measured.
+        ensures failed { IsTrue (file_of area self.old).has_failed → IsErr result }
+        ensures only_failed { OnErr result (IsTrue (file_of area self.old).has_failed) }
+        ensures files { self.new ≡ record self.old { faults = self.new.faults } }
+    {
         let outcome = match area {
             Area::Image => self.image.len(),
             Area::Journal => self.journal.len(),
@@ -140,7 +158,18 @@ impl Store for FileStore {
         counted(&mut self.faults, outcome)
     }
 
-    fn read_at(&mut self, area: Area, at: u64, buf: &mut [u8]) -> Result<(), Fault> {
+    fn read_at(&mut self, area: Area, at: u64, buf: &mut [u8]) -> Result<(), Fault>
+        requires { at + length buf.old ≤ size_of area (state_of_files self.old) }
+        ensures bytes { OnOk result (ReadsFrom area at (state_of_files self.old) buf.new) }
+        ensures same { state_of_files self.new ≡ state_of_files self.old }
+        ensures counts { self.old.faults ≤ self.new.faults }
+        ensures cause { OnErr result (Rose self.old.faults self.new.faults) }
+
+        // It fails where the file couldn't be opened or measured, and of no file nothing can be read.
+        ensures failed { IsTrue (file_of area self.old).has_failed → IsErr result }
+        ensures absent { IsTrue (file_of area self.old).is_absent → IsOk result }
+        ensures files { self.new ≡ record self.old { faults = self.new.faults } }
+    {
         let outcome = match area {
             Area::Image => self.image.read_at(at, buf),
             Area::Journal => self.journal.read_at(at, buf),

@@ -2,6 +2,10 @@
 ghost use Rattle.std.specs.Prelude.{◌≡◌, ◌≤◌, length, IfOk};
 ghost use Rattle.disk_defs.specs.Disk.{size_of};
 
+use super::{
+    Area, Fault, FileStore, MemSink, MemSource, MemStore, NoMemory, Opened, ReadError, Sink,
+    Source, StdSink, StdSource, Store, read_to_end, write_all,
+};
 use std::alloc::{AllocError, Global};
 use std::fs::File;
 use std::io::{ErrorKind, Read, Write};
@@ -9,11 +13,6 @@ use std::path::PathBuf;
 use std::process::Abort;
 use std::test::Fail;
 use std::{env, fs, io, process};
-
-use super::{
-    Area, Fault, FileStore, MemSink, MemSource, MemStore, NoMemory, Opened, ReadError, Sink, Source,
-    StdSink, StdSource, Store, read_to_end, write_all,
-};
 
 fn bytes_of(alloc: Global, text: &[u8]) -> Result<Vec<u8>, AllocError>
     ensures { IfOk result (λ bytes. bytes.items ≡ text.now) }
@@ -60,7 +59,10 @@ fn a_sink_in_memory_takes_what_fits(rt: HostRuntime) -> Result<(), Fail> {
     assert_eq!(rt; write_all(&mut sink, b"de"), Err(Fault));
     assert_eq!(rt; sink.bytes(), b"abcd".as_slice());
     assert_eq!(rt; sink.write(b""), Ok(0));
-    assert_eq!(rt; write_all(&mut MemSink::new(rt.alloc(), 5)?, b"hello"), Ok(()));
+    assert_eq!(rt;
+        write_all(&mut MemSink::new(rt.alloc(), 5)?, b"hello"),
+        Ok(())
+    );
     Ok(())
 }
 
@@ -76,7 +78,12 @@ fn a_text_is_read_whole_up_to_the_limit(rt: HostRuntime) -> Result<(), Fail> {
         }
     }
     let mut source = MemSource::new(long, Some(2));
-    assert!(rt; matches!(read_to_end(rt.alloc(), &mut source, 9000), Err(ReadError::Fault)));
+    assert!(rt;
+        matches!(
+            read_to_end(rt.alloc(), &mut source, 9000),
+            Err(ReadError::Fault)
+        )
+    );
     Ok(())
 }
 
@@ -190,7 +197,12 @@ fn a_call_that_was_interrupted_is_made_again(rt: HostRuntime) -> Result<(), Fail
     let mut source = StdSource::new(Some(Answers { left: answers }));
     assert_eq!(rt; source.read(&mut [0; 3]), Ok(2));
     assert_eq!(rt; source.read(&mut [0; 3]), Err(Fault));
-    let answers = vec![in rt.alloc(); Err(ErrorKind::BrokenPipe), Ok(0), Ok(2), Err(ErrorKind::Interrupted)]?;
+    let answers = vec![in rt.alloc();
+        Err(ErrorKind::BrokenPipe),
+        Ok(0),
+        Ok(2),
+        Err(ErrorKind::Interrupted),
+    ]?;
     let mut sink = StdSink::new(Answers { left: answers });
     assert_eq!(rt; sink.write(b"abc"), Ok(2));
     assert_eq!(rt; sink.write(b"c"), Err(Fault));
