@@ -3,3 +3,5 @@ pub mod Ask
 pub mod Runs
 pub mod Agreement
 pub mod Numbers
+pub mod Looks
+pub mod Guard

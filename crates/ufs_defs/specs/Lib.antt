@@ -1,0 +1,6 @@
+pub mod Signed
+pub mod Superblock
+pub mod Inode
+pub mod Directory
+pub mod Blocks
+pub mod Entries

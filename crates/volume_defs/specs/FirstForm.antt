@@ -1,0 +1,1 @@
+-- Images of the first form: a small UFS2 with one file.
