@@ -1,2 +1,3 @@
 pub mod Words
+pub mod FirstLine
 pub mod Status
