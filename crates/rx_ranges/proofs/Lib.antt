@@ -5,3 +5,6 @@ pub mod Holding
 pub mod Paints
 pub mod Overlay
 pub mod OverlayKeeps
+pub mod OverlaySteps
+pub mod Joining
+pub mod JoiningSteps

@@ -113,7 +113,7 @@ all-on P next claim first second third last =
             (all-unless P (shared_part next claim) third))
         (all-unless P (part_of next (claim.range.at + claim.range.len) (next.range.at + next.range.len)) last)
 
-part-reach : (claim : Claim) (from to : ℕ) → from ≤ 9223372036854775808 → EndsInReach claim.range → EndsInReach (part_of claim from to).range
+pub part-reach : (claim : Claim) (from to : ℕ) → from ≤ 9223372036854775808 → EndsInReach claim.range → EndsInReach (part_of claim from to).range
 unfolding part_of
 part-reach claim from to low reach = omega arith
 
