@@ -8,3 +8,4 @@ pub mod OverlayKeeps
 pub mod OverlaySteps
 pub mod Joining
 pub mod JoiningSteps
+pub mod Filling
