@@ -1,2 +1,4 @@
 pub mod Kind
 pub mod FirstForm
+pub mod ImageT
+pub mod RowsT
