@@ -2,3 +2,5 @@ pub mod Kind
 pub mod FirstForm
 pub mod ImageT
 pub mod RowsT
+pub mod FirstTree
+pub mod FirstFootprint
