@@ -4,3 +4,4 @@ pub mod ImageT
 pub mod RowsT
 pub mod FirstTree
 pub mod FirstFootprint
+pub mod FirstReader
