@@ -29,6 +29,7 @@ pub enum Command {
 }
 
 /// The command that words ask for, where they fit a line of the usage.
+#[tactic(auto, using(crate::proofs::Lines::lines))]
 pub fn parse_words(words: &[String]) -> Option<Command>
     ensures { result ≡ command_of (map (λ word. string_bytes word) words.now) }
 {
