@@ -1,6 +1,5 @@
 use Rattle.std.proofs.Common.{sym, subst, refl, ◌∙◌}
 use Rattle.redact_cmd.proofs.FirstLines.{other_text-of_line, other_high, other_low, other_name, first_form, on_none}
-use Rattle.rule_defs.specs.Reads.{first_line}
 use Rattle.redact_cmd.specs.FirstLine.{IsOtherLine}
 use Rattle.redact_cmd.proofs.rules.first_line_of.Goals as goal
 

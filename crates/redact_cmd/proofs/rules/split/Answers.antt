@@ -1,4 +1,3 @@
-use Rattle.std.proofs.Common.{arith}
 use Rattle.redact_cmd.proofs.FirstLines.{other_opening, other_length, other_middle, line-parts, on_none}
 use Rattle.redact_cmd.proofs.rules.split.Goals as goal
 
