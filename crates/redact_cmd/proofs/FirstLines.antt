@@ -261,3 +261,16 @@ other-no_rules text none rules reads = none reads.name reads.fill reads.line
 -- the rule of a text in the first form
 pub line-reads : (text name : List ℕ) (fill : ℕ) (rule : Rule) → rule ≡ first_rule name fill → IsFirstLine text name fill → Reads text (rule ∷ [])
 line-reads text name fill rule is line = record { name = name; fill = fill; line = line; rules_are = ap (λ r. r ∷ []) is }
+
+-- a text says one list of rules
+pub one_reading : (text : List ℕ) (a b : List Rule) → Reads text a → Reads text b → a ≡ b
+one_reading text a b r s =
+    let l = r.line in
+    let m = s.line in
+    let same = same_parts r.name s.name l.high l.low m.high m.low (sym (line-of text r.name r.fill l) ∙ line-of text s.name s.fill m) in
+    let highs : Some l.high_value ≡ Some m.high_value = sym l.high_is ∙ ap hex_value same.1 ∙ m.high_is in
+    let lows : Some l.low_value ≡ Some m.low_value = sym l.low_is ∙ ap hex_value same.2 ∙ m.low_is in
+    let high_values : l.high_value ≡ m.high_value = cc in
+    let low_values : l.low_value ≡ m.low_value = cc in
+    let fills : r.fill ≡ s.fill = omega (arith, l.fill_is, m.fill_is, high_values, low_values) in
+    r.rules_are ∙ ap (λ name. first_rule name r.fill ∷ []) same.0 ∙ ap (λ fill. first_rule s.name fill ∷ []) fills ∙ sym s.rules_are

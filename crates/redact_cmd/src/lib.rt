@@ -1,8 +1,11 @@
 //! The commands of the program.
 #![tactic(auto)]
 
+mod plan;
+mod reader;
 mod report;
 mod rules;
+mod run;
 pub mod status;
 pub mod words;
 

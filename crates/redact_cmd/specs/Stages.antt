@@ -1,0 +1,35 @@
+-- What the stages of a command give, beside what the definitions say.
+use Rattle.std.specs.Prelude.{◌≡◌, Result, Ok, Err}
+use Rattle.rx_tree.specs.FoundTree.{FoundTree}
+use Rattle.volume_defs.specs.FirstForm.{FirstFault, NotFirstForm}
+use Rattle.redact_cmd.specs.declared.status.Status.{Status}
+use Rattle.redact_cmd.specs.declared.status.Status.TheVariants.{Done, Usage, DeviceFault, SourceFault, SinkFault, NoMemory, NotBuilt}
+
+-- the only statuses with which the reading of an image is refused
+abbrev pub IsImageRefusal : Status → Type 0
+IsImageRefusal Done = ⊥
+IsImageRefusal Usage = ⊥
+IsImageRefusal DeviceFault = Unit {0}
+IsImageRefusal SourceFault = ⊥
+IsImageRefusal SinkFault = ⊥
+IsImageRefusal NoMemory = Unit {0}
+IsImageRefusal NotBuilt = Unit {0}
+
+-- a status of a stage, where an image gives this: it isn't built exactly where the image hasn't the first form
+abbrev pub Refuses : {X : Type 0} → Status → Result X FirstFault → Type 0
+Refuses Done found = Unit {0}
+Refuses Usage found = Unit {0}
+Refuses DeviceFault found = Unit {0}
+Refuses SourceFault found = Unit {0}
+Refuses SinkFault found = Unit {0}
+Refuses NoMemory found = Unit {0}
+Refuses NotBuilt found = found ≡ Err NotFirstForm
+
+-- the answer of a stage that reads an image, where the image gives this
+abbrev pub Gives : {X : Type 0} → Result X Status → Result X FirstFault → Type 0
+Gives (Ok value) found = found ≡ Ok value
+Gives (Err status) found = Refuses status found
+
+-- the tree that is read from an image, where the image gives this
+abbrev pub GivesTree : Result FoundTree Status → Result FoundTree FirstFault → Type 0
+GivesTree result found = Gives result found
