@@ -1,7 +1,7 @@
 -- A store, a source and a sink in memory: what contracts see of them.
 use Rattle.std.specs.Prelude.{ℕ, Option, Some, List, [], length, Result, refl}
 use Rattle.disk_defs.specs.Count.{one_more, faults_after}
-use Rattle.disk_defs.specs.Disk.{Sizes, Held, State, TellsItsSizes}
+use Rattle.disk_defs.specs.Disk.{Held, State, TellsItsSizes}
 use Rattle.disk_defs.specs.declared.Area.TheVariants.{Image, Journal}
 
 -- a store in memory: what it holds, the numbers of the calls that fail, and how many calls were made and failed
