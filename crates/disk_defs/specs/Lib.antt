@@ -1,4 +1,5 @@
 pub mod Disk
 pub mod Count
 pub mod Stream
+pub mod StreamLaws
 pub mod Memory

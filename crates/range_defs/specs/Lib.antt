@@ -1,2 +1,5 @@
 pub mod Places
 pub mod Claims
+pub mod RangeLaws
+pub mod ClaimLaws
+pub mod LeastLaws

@@ -1,0 +1,74 @@
+-- The plan of a tree and its rules: which bytes are filled, by which rule and with what, and which files are listed.
+use Rattle.std.specs.Prelude.{ℕ, Bool, ◌&&◌, is_some, if◌then◌else◌, nat_lt, Option, Some, None, List, [], ◌++◌, map}
+use Rattle.std.specs.List.{list_any, flat_map}
+use Rattle.range_defs.specs.declared.Range.{Range}
+use Rattle.range_defs.specs.declared.Claim.{Claim}
+use Rattle.range_defs.specs.Places.{covers, least_below}
+use Rattle.range_defs.specs.Claims.{painted, longest_claims}
+use Rattle.rx_ranges.specs.declared.plan.Plan.{Plan}
+use Rattle.rx_ranges.specs.declared.plan.Listed.{Listed}
+use Rattle.rx_ranges.specs.declared.plan.ListKind.{ListKind}
+use Rattle.rx_ranges.specs.declared.plan.ListKind.TheVariants.{File, Alias}
+use Rattle.rx_tree.specs.declared.file.FileEntry.{FileEntry}
+use Rattle.rx_tree.specs.FoundPart.{FoundPart}
+use Rattle.rx_tree.specs.FoundTree.{FoundTree}
+use Rattle.rule_defs.specs.declared.Rule.{Rule}
+use Rattle.rule_defs.specs.Settle.{settling_rule, claims_on, disk_ranges}
+
+-- all claims on the files
+abbrev pub all_claims : List Rule → List FileEntry → List Claim
+all_claims rules files = flat_map (claims_on rules) files
+
+-- the rule and the fill of a byte: those of the least rule that claims it, if there is one
+abbrev pub planned_at : List Rule → List FileEntry → ℕ → Option (ℕ × ℕ)
+planned_at rules files byte = painted (all_claims rules files) byte
+
+abbrev pub is_planned : List Rule → List FileEntry → ℕ → Bool
+is_planned rules files byte = is_some (planned_at rules files byte)
+
+-- the bytes of the image that a part has: those of its pieces, and its slack
+abbrev pub part_ranges : FoundPart → List Range
+part_ranges part = disk_ranges part ++ part.slack
+
+-- the bytes of the image that a file touches
+abbrev pub touched_ranges : FileEntry → List Range
+touched_ranges file = flat_map part_ranges file.parts
+
+-- whether a file touches a planned byte of an image of this length
+abbrev pub touches_planned : ℕ → (ℕ → Bool) → FileEntry → Bool
+touches_planned len planned file = is_some (least_below (λ byte. planned byte && covers (touched_ranges file) byte) len)
+
+-- a line for each name of a file
+abbrev pub lines_for : ListKind → ℕ → FileEntry → List Listed
+lines_for kind rule file = map (λ name. record { kind = kind; rule = rule; path = name }) file.names
+
+-- whether claims have a byte
+abbrev pub claim_some : List Claim → Bool
+claim_some claims = list_any (λ claim. nat_lt 0 claim.range.len) claims
+
+-- the lines of a file that isn't listed as settled: one for each name as an alias where it touches a planned byte
+abbrev pub alias_lines : ℕ → (ℕ → Bool) → FileEntry → List Listed
+alias_lines len planned file = if touches_planned len planned file then lines_for Alias 0 file else []
+
+-- the lines of a file: of a settled one whose claim has a byte each name with its rule, and else those of an alias
+abbrev pub file_lines : ℕ → (ℕ → Bool) → Option Rule → List Claim → FileEntry → List Listed
+file_lines len planned None claims file = alias_lines len planned file
+file_lines len planned (Some rule) claims file =
+    if claim_some claims then lines_for File rule.number file else alias_lines len planned file
+
+abbrev pub lines_of : List Rule → ℕ → (ℕ → Bool) → FileEntry → List Listed
+lines_of rules len planned file = file_lines len planned (settling_rule rules file) (claims_on rules file) file
+
+-- the plan of a tree and its rules: the longest ranges of equal rule over the planned bytes, and the lines of the
+-- files in the tree's order
+unfoldable pub plan_of : FoundTree → List Rule → Plan
+plan_of tree rules = record {
+  image_len = tree.image_len;
+  ranges = longest_claims (planned_at rules tree.files) 0 tree.image_len;
+  listing = flat_map (lines_of rules tree.image_len (is_planned rules tree.files)) tree.files;
+}
+
+-- the least planned byte that lies in the guard, if there is one
+unfoldable pub guarded_byte : FoundTree → List Rule → Option ℕ
+guarded_byte tree rules =
+    least_below (λ byte. is_planned rules tree.files byte && covers tree.guard byte) tree.image_len

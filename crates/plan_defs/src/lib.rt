@@ -1,0 +1,2 @@
+//! The plan of a tree and its rules.
+#![tactic(auto)]

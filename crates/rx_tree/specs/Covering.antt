@@ -1,0 +1,31 @@
+-- The pieces of a part.
+use Rattle.std.specs.Prelude.{ℕ, ◌+◌, Bool, true, false, ◌&&◌, ◌||◌, ◌==◌, IsTrue, not, nat_lt, List, [], ◌∷◌}
+use Rattle.rx_ranges.specs.declared.pieces.Piece.{Piece}
+use Rattle.rx_ranges.specs.declared.pieces.PieceKind.{PieceKind}
+use Rattle.rx_ranges.specs.declared.pieces.PieceKind.TheVariants.{Disk, Zero}
+
+-- whether a piece goes on where another ends, so that the two could be one
+abbrev pub goes_on : Piece → Piece → Bool
+goes_on piece next = joins piece.kind next.kind (piece.at + piece.len == next.at)
+  where
+    joins : PieceKind → PieceKind → Bool → Bool
+    joins Disk Disk meets = meets
+    joins Zero Zero meets = true
+    joins Disk Zero meets = false
+    joins Zero Disk meets = false
+
+-- the next piece could not be one with this
+abbrev pub begins_anew : Piece → List Piece → Bool
+begins_anew piece [] = true
+begins_anew piece (next ∷ pieces) = not (goes_on piece next)
+
+-- the pieces cover the bytes from a place of the part to its end, in order; none is empty, and each is as long as
+-- possible
+abbrev pub covers_from : ℕ → ℕ → List Piece → Bool
+covers_from from size [] = from == size
+covers_from from size (piece ∷ pieces) =
+    piece.from == from && (nat_lt 0 piece.len && (begins_anew piece pieces && covers_from (from + piece.len) size pieces))
+
+-- the pieces of a readable part cover it
+abbrev pub ArePiecesOf : Bool → ℕ → List Piece → Type 0
+ArePiecesOf unreadable size pieces = IsTrue (unreadable || covers_from 0 size pieces)

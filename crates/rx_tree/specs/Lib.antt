@@ -1,0 +1,6 @@
+pub mod Covering
+pub mod FoundPart
+pub mod FoundTree
+pub mod Order
+pub mod Path
+pub mod Within

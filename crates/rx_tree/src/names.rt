@@ -1,0 +1,88 @@
+//! The names of a file: printed paths.
+ghost use Rattle.std.specs.Prelude.{◌≡◌, ◌<◌, ◌≤◌, OnOk, IfOk, IsErrOf, IsSorted, length};
+ghost use Rattle.std.specs.Cmp.Lexicographic.{slice_cmp};
+ghost use Rattle.std.specs.Ordering.{nat_cmp};
+ghost use Rattle.rx_tree.specs.Path.{joined_path};
+
+use std::alloc::{AllocError, Global};
+use std::marker::Model;
+
+use rx_ranges::Text;
+
+/// The names of a file, sorted by their bytes. Equal ones stay, each by itself.
+#[derive(Debug, Drop)]
+pub struct Names {
+    names: Vec<Text>,
+}
+
+impl Model for Names {
+    ghost use Rattle.std.specs.Prelude.{List, ℕ, IsSorted};
+    ghost use Rattle.std.specs.Cmp.Lexicographic.{slice_cmp};
+    ghost use Rattle.std.specs.Ordering.{nat_cmp};
+
+    ghost Value = { List (List ℕ) };
+
+    ghost view = { λ n. n.names.items };
+
+    ghost invariant = { λ n. IsSorted (slice_cmp nat_cmp) n.names.items };
+}
+
+impl Names {
+    /// These names.
+    pub fn from_vec(items: Vec<Text>) -> Self
+        requires { IsSorted (slice_cmp nat_cmp) items.items }
+        ensures { result ≡ items.items }
+    {
+        Names { names: items }
+    }
+
+    /// The names in order.
+    pub fn items(&self) -> &[Text]
+        ensures items { result.now ≡ self.now }
+        ensures sorted { IsSorted (slice_cmp nat_cmp) self.now }
+    {
+        self.names.as_slice()
+    }
+}
+
+/// The greatest length of a path, in bytes.
+pub const MAX_PATH: usize = 65_535;
+
+/// Why a path can't be.
+#[derive(Clone, Copy, Debug, PartialEq, Eq)]
+pub enum PathFault {
+    /// It would have more than 65,535 bytes.
+    TooLong,
+    /// There was no memory.
+    NoMemory,
+}
+
+impl From<AllocError> for PathFault {
+    ghost use Rattle.rx_tree.specs.declared.names.PathFault.TheVariants.{NoMemory};
+
+    ghost from_gives = { λ _ fault. fault ≡ NoMemory };
+
+    fn from(_: AllocError) -> Self {
+        PathFault::NoMemory
+    }
+}
+
+/// The path of a name in a folder: the folder's path, a slash where that isn't the root's, and the name.
+pub fn join_path(alloc: Global, parent: &Text, name: &Text) -> Result<Text, PathFault>
+    ensures joined { IfOk result (λ path. path ≡ joined_path parent.now name.now) }
+    ensures fits { OnOk result (length (joined_path parent.now name.now) ≤ MAX_PATH) }
+    ensures too_long { IsErrOf result PathFault.TooLong → MAX_PATH < length (joined_path parent.now name.now) }
+{
+    let folder = parent.as_str();
+    let slash = if folder == "/" { "" } else { "/" };
+    let last = name.as_str();
+    let len = folder.len().saturating_add(slash.len()).saturating_add(last.len());
+    if len > MAX_PATH {
+        return Err(PathFault::TooLong);
+    }
+    let mut path = String::with_capacity(alloc, len)?;
+    path.push_str(folder)?;
+    path.push_str(slash)?;
+    path.push_str(last)?;
+    Ok(Text::from_string(path))
+}

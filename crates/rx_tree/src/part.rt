@@ -1,0 +1,78 @@
+//! The parts of a file: its content, and what else it has in the image.
+ghost use Rattle.std.specs.Prelude.{◌≡◌};
+
+use std::marker::Model;
+
+use rx_ranges::{Pieces, RangeList, Text};
+
+/// What a part is to its file.
+#[derive(Clone, Copy, Debug, PartialEq, Eq)]
+pub enum Role {
+    /// Its bytes are what a reader of the file gets.
+    Content,
+    /// The file system keeps it beside the content.
+    Other,
+}
+
+/// A part of a file: `size` bytes that its pieces give, and the slack, which is what is allocated for the part and
+/// isn't content. Sizes are in bytes.
+///
+/// The pieces of a readable part cover its bytes in order, and are the longest possible.
+#[derive(Debug, Drop)]
+pub struct Part {
+    pub role: Role,
+    pub name: Text,
+    pub size: u64,
+    pub pieces: Pieces,
+    pub slack: RangeList,
+    pub unreadable: bool,
+}
+
+impl Model for Part {
+    ghost use Rattle.rx_tree.specs.FoundPart.{FoundPart};
+    ghost use Rattle.rx_tree.specs.Covering.{ArePiecesOf};
+
+    ghost Value = { FoundPart };
+
+    ghost view = { λ p. record {
+        role = p.role;
+        name = p.name;
+        size = p.size;
+        pieces = p.pieces;
+        slack = p.slack;
+        unreadable = p.unreadable;
+    } };
+
+    ghost invariant = { λ p. ArePiecesOf p.unreadable p.size p.pieces };
+}
+
+/// The parts of a file.
+#[derive(Debug, Drop)]
+pub struct Parts {
+    parts: Vec<Part>,
+}
+
+impl Model for Parts {
+    ghost use Rattle.std.specs.Prelude.{List};
+    ghost use Rattle.rx_tree.specs.FoundPart.{FoundPart};
+
+    ghost Value = { List FoundPart };
+
+    ghost view = { λ p. p.parts.items };
+}
+
+impl Parts {
+    /// These parts.
+    pub fn from_vec(items: Vec<Part>) -> Self
+        ensures { result ≡ items.items }
+    {
+        Parts { parts: items }
+    }
+
+    /// The parts in order.
+    pub fn items(&self) -> &[Part]
+        ensures { result.now ≡ self.now }
+    {
+        self.parts.as_slice()
+    }
+}

@@ -1,0 +1,41 @@
+//! The tree of an image.
+use std::marker::Model;
+
+use rx_ranges::RangeList;
+
+use crate::file::Files;
+use crate::volume::Volumes;
+
+/// All that an image of `image_len` bytes says: its volumes, the bytes of partitions that aren't read, its files, and
+/// the guard, which is the bytes on which all this rests. The image has at most 2^46 bytes, and everything lies in it.
+#[derive(Debug, Drop)]
+pub struct Tree {
+    pub image_len: u64,
+    pub volumes: Volumes,
+    pub unread: RangeList,
+    pub files: Files,
+    pub guard: RangeList,
+}
+
+impl Model for Tree {
+    ghost use Rattle.rx_tree.specs.FoundTree.{FoundTree};
+    ghost use Rattle.rx_tree.specs.Within.{IsWithin};
+
+    ghost Value = { FoundTree };
+
+    ghost view = { λ t. record {
+        image_len = t.image_len;
+        volumes = t.volumes;
+        unread = t.unread;
+        files = t.files;
+        guard = t.guard;
+    } };
+
+    ghost invariant = { λ t. IsWithin (record {
+        image_len = t.image_len;
+        volumes = t.volumes;
+        unread = t.unread;
+        files = t.files;
+        guard = t.guard;
+    }) };
+}

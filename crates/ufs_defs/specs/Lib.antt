@@ -1,0 +1,8 @@
+pub mod Signed
+pub mod Superblock
+pub mod Inode
+pub mod Directory
+pub mod Blocks
+pub mod Entries
+pub mod SoundSuperblock
+pub mod BlockLaws

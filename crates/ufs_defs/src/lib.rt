@@ -1,0 +1,5 @@
+//! What a UFS2 says.
+#![tactic(auto)]
+
+pub mod inode;
+pub mod superblock;
