@@ -1,5 +1,5 @@
 //! A store in memory, whose calls fail where they are told to.
-ghost use Rattle.std.specs.Prelude.{◌≡◌, ◌+◌, ◌≤◌, ℕ, length, vec_len, IfOk, OnOk, OnErr, IsErr, Contains};
+ghost use Rattle.std.specs.Prelude.{◌≡◌, ◌+◌, ◌≤◌, length, vec_len, IfOk, OnOk, OnErr, IsErr, Contains};
 ghost use Rattle.disk_defs.specs.Disk.{size_of, ReadsFrom};
 ghost use Rattle.disk_defs.specs.Count.{Rose, one_more, faults_after};
 ghost use Rattle.disk_defs.specs.Memory.{store_holding, state_in_memory, after_call};

@@ -1,6 +1,5 @@
 //! A source over a reader of std.
-ghost use Rattle.std.specs.Prelude.{◌≡◌, ◌<◌, ◌≤◌, None, [], length, IfOk, IfSome, OnErr, IsErr, IsTrue, is_none};
-ghost use Rattle.disk_defs.specs.Stream.{GivesFirst, rest_after};
+ghost use Rattle.std.specs.Prelude.{◌≡◌, ◌≤◌, length, IfOk, OnErr, IsErr, IsTrue, is_none};
 ghost use Rattle.disk_defs.specs.Count.{Rose};
 
 use crate::outside::{counted, read_once};
