@@ -130,6 +130,7 @@ impl Store for MemStore {
         ensures same { state_in_memory self.new ≡ state_in_memory self.old }
         ensures counts { self.old.faults ≤ self.new.faults }
         ensures cause { OnErr result (Rose self.old.faults self.new.faults) }
+        ensures calm { OnOk result (self.new.faults ≡ self.old.faults) }
 
         // A call fails exactly where its number was named.
         ensures fails { Contains self.old.failing (one_more self.old.calls) → IsErr result }
@@ -150,6 +151,7 @@ impl Store for MemStore {
         ensures same { state_in_memory self.new ≡ state_in_memory self.old }
         ensures counts { self.old.faults ≤ self.new.faults }
         ensures cause { OnErr result (Rose self.old.faults self.new.faults) }
+        ensures calm { OnOk result (self.new.faults ≡ self.old.faults) }
 
         // A call fails exactly where its number was named.
         ensures fails { Contains self.old.failing (one_more self.old.calls) → IsErr result }
