@@ -1,5 +1,5 @@
 //! Reads the rule text.
-ghost use Rattle.std.specs.Prelude.{◌≡◌, ℕ, ◌+◌, ◌*◌, ◌<◌, ◌≤◌, ◌&&◌, ◌∷◌, [], List, Some, None, IfSome, IfNone, IfOk, IfErr, OnOk, IsErrOf, IsTrue, length};
+ghost use Rattle.std.specs.Prelude.{◌≡◌, ◌≢◌, Err, ℕ, ◌+◌, ◌*◌, ◌<◌, ◌≤◌, ◌&&◌, ◌∷◌, [], List, Some, None, IfSome, IfNone, IfOk, IfErr, OnOk, IsErrOf, IsTrue, length};
 ghost use Rattle.std.specs.List.{list_all};
 ghost use Rattle.disk_defs.specs.Count.{Rose};
 ghost use Rattle.rule_defs.specs.Reads.{is_name_byte, is_plain_name, hex_value, first_line, first_rule, IsFirstLine, Reads, SaysNoRules};
@@ -105,6 +105,7 @@ pub(crate) fn read_rule<R: Source>(alloc: Global, source: &mut R) -> Result<Rule
     ensures refusals { IfErr result IsTextRefusal }
     ensures counts { R.faults source.old ≤ R.faults source.new }
     ensures cause { IsErrOf result Status.SourceFault → Rose (R.faults source.old) (R.faults source.new) }
+    ensures calm { result ≢ Err Status.SourceFault → R.faults source.new ≡ R.faults source.old }
 {
     let text = match read_to_end(alloc, source, MAX_TEXT) {
         Ok(Some(text)) => text,

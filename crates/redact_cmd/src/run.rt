@@ -58,9 +58,9 @@ fn plan_command<S: Store, R: Source, K: Sink>(
     ensures known { result ≢ Status.Usage }
     ensures rules_first { result ≡ Status.DeviceFault → IfSome (R.rest rules.old) SaysRules }
 
-    ensures store_counts { S.faults store.old ≤ S.faults store.new }
-    ensures rules_counts { R.faults rules.old ≤ R.faults rules.new }
-    ensures out_counts { K.faults out.old ≤ K.faults out.new }
+    ensures store_calm { result ≢ Status.DeviceFault → S.faults store.new ≡ S.faults store.old }
+    ensures rules_calm { result ≢ Status.SourceFault → R.faults rules.new ≡ R.faults rules.old }
+    ensures out_calm { result ≢ Status.SinkFault → K.faults out.new ≡ K.faults out.old }
     ensures device { result ≡ Status.DeviceFault → Rose (S.faults store.old) (S.faults store.new) }
     ensures source { result ≡ Status.SourceFault → Rose (R.faults rules.old) (R.faults rules.new) }
     ensures sink { result ≡ Status.SinkFault → Rose (K.faults out.old) (K.faults out.new) }
@@ -126,9 +126,14 @@ pub fn run<S: Store, R: Source, K: Sink>(
     ensures source { result ≡ Status.SourceFault → Rose (R.faults rules.old) (R.faults rules.new) }
     ensures sink { result ≡ Status.SinkFault → Rose (K.faults out.old) (K.faults out.new) }
     ensures rules_first { result ≡ Status.DeviceFault → IfSome (R.rest rules.old) SaysRules }
-    ensures store_counts { S.faults store.old ≤ S.faults store.new }
-    ensures rules_counts { R.faults rules.old ≤ R.faults rules.new }
-    ensures out_counts { K.faults out.old ≤ K.faults out.new }
+    ensures store_calm { result ≢ Status.DeviceFault → S.faults store.new ≡ S.faults store.old }
+    ensures rules_calm { result ≢ Status.SourceFault → R.faults rules.new ≡ R.faults rules.old }
+    ensures out_calm { result ≢ Status.SinkFault → K.faults out.new ≡ K.faults out.old }
+
+    // No other command calls the store, the source or the sink.
+    ensures idle_store { command_of (map (λ word. string_bytes word) words.now) ≢ Some Command.Plan → store.new ≡ store.old }
+    ensures idle_rules { command_of (map (λ word. string_bytes word) words.now) ≢ Some Command.Plan → rules.new ≡ rules.old }
+    ensures idle_out { command_of (map (λ word. string_bytes word) words.now) ≢ Some Command.Plan → out.new ≡ out.old }
 {
     match parse_words(words) {
         None => Status::Usage,
