@@ -1,9 +1,9 @@
 -- Laws on the claims on files, the lines of a listing and the plan: what a reader of the plan's parts needs to know that
 -- they are the plan.
-use Rattle.std.proofs.Common.{◌≡◌, ℕ, zero, suc, ◌+◌, ◌<◌, ◌≤◌, Bool, true, false, ◌&&◌, cond, Option, Some, None, is_some, List, [], ◌∷◌, length, get_or, refl, sym, ◌∙◌, ap, subst, arith}
+use Rattle.std.proofs.Common.{◌≡◌, ℕ, zero, suc, ◌+◌, ◌<◌, ◌≤◌, Bool, true, false, ◌&&◌, cond, Option, Some, None, is_some, List, [], ◌∷◌, ◌++◌, map, length, get_or, refl, sym, ◌∙◌, ap, subst, arith}
 use mathlib.Core.Path.{fun_ext}
 use Rattle.std.specs.List.{All, flat_map}
-use Rattle.std.proofs.lemmas.List.Elements.{All-nil, All-cons, All-append, All-map, All-weaker}
+use Rattle.std.proofs.lemmas.List.Elements.{All-nil, All-cons, All-append, All-map, All-weaker, All-same}
 use Rattle.std.proofs.lemmas.Bool.{cond_both, and_right}
 use Rattle.range_defs.specs.declared.Range.{Range}
 use Rattle.range_defs.specs.declared.Claim.{Claim}
@@ -79,22 +79,37 @@ pub parts-longer : (short long : ℕ) (parts : List FoundPart) → short ≤ lon
 parts-longer short long parts fits within =
     All-weaker (λ part. ArePiecesWithin short part.pieces × AreRangesWithin short part.slack)
     (λ part. ArePiecesWithin long part.pieces × AreRangesWithin long part.slack)
-    (λ part both.
-        ( All-weaker (λ piece. piece.at + piece.len ≤ short) (λ piece. piece.at + piece.len ≤ long) (λ piece less. omega (arith, less)) part.pieces both.0
-        , All-weaker (RangeEndsBy short) (RangeEndsBy long) (λ range less. omega (arith, less)) part.slack both.1 ))
+    (λ part both. (
+      All-weaker (λ piece. piece.at + piece.len ≤ short) (λ piece. piece.at + piece.len ≤ long) (λ piece less. omega (arith, less)) part.pieces both.0,
+      All-weaker (RangeEndsBy short) (RangeEndsBy long) (λ range less. omega (arith, less)) part.slack both.1,
+    ))
     parts within
 
 -- a file of a tree lies within the image
-pub file-within : (tree : FoundTree) (index : ℕ) (file : FileEntry) → IsWithin tree → index < length tree.files
-    → file ≡ get_or tree.files index file → ArePartsWithin tree.image_len file.parts
-file-within tree index file within inside is =
-    subst (λ (f : FileEntry). ArePartsWithin tree.image_len f.parts) (sym is) (within.files index file inside)
+pub file-within : (tree : FoundTree) (files : List FileEntry) (index : ℕ) (file : FileEntry) → IsWithin tree → files ≡ tree.files
+    → index < length files → file ≡ get_or files index file → ArePartsWithin tree.image_len file.parts
+file-within tree files index file within files_are inside is =
+    subst (λ (f : FileEntry). ArePartsWithin tree.image_len f.parts) (sym is)
+    (All-same (λ f. ArePartsWithin tree.image_len f.parts) files tree.files files_are within.files index file inside)
 
 -- and so in reach
-pub file-in_reach : (tree : FoundTree) (index : ℕ) (file : FileEntry) → IsWithin tree → index < length tree.files
-    → file ≡ get_or tree.files index file → ArePartsWithin 9223372036854775808 file.parts
-file-in_reach tree index file within inside is =
-    parts-longer tree.image_len 9223372036854775808 file.parts (omega (arith, within.in_reach)) (file-within tree index file within inside is)
+pub file-in_reach : (tree : FoundTree) (files : List FileEntry) (index : ℕ) (file : FileEntry) → IsWithin tree → files ≡ tree.files
+    → index < length files → file ≡ get_or files index file → ArePartsWithin 9223372036854775808 file.parts
+file-in_reach tree files index file within files_are inside is =
+    parts-longer tree.image_len 9223372036854775808 file.parts (omega (arith, within.in_reach))
+    (file-within tree files index file within files_are inside is)
+
+claimed_ranges-content : (action : Action) (file : FileEntry) → claimed_ranges action file ≡ content_ranges file
+claimed_ranges-content (Fill byte) file = refl
+
+-- what one rule claims of a file that it settles, and of one that it doesn't
+pub claims_on-settled : (rule : Rule) (file : FileEntry) → (is_plain_file file.kind && holds rule.condition file) ≡ true
+    → claims_on (rule ∷ []) file ≡ map (claim_by rule) (content_ranges file)
+claims_on-settled rule file settled = rw settled (ap (map (claim_by rule)) (claimed_ranges-content rule.action file))
+
+pub claims_on-unsettled : (rule : Rule) (file : FileEntry) → (is_plain_file file.kind && holds rule.condition file) ≡ false
+    → claims_on (rule ∷ []) file ≡ []
+claims_on-unsettled rule file unsettled = rw unsettled refl
 
 -- each claim of one rule has its fill
 HasFillOf : Rule → Claim → Type 0
@@ -123,12 +138,20 @@ claims-one_fill rule files first second other before inside same_rule =
 -- the lines of a file where there is one rule
 pub lines_of-one : (rule : Rule) (len : ℕ) (planned : ℕ → Bool) (file : FileEntry)
     → lines_of (rule ∷ []) len planned file
-        ≡ cond (claim_some (claims_on (rule ∷ []) file)) (lines_for kinds.File rule.number file) (alias_lines len planned file)
+    ≡ cond (claim_some (claims_on (rule ∷ []) file)) (lines_for kinds.File rule.number file) (alias_lines len planned file)
 lines_of-one rule len planned file =
     elim (is_plain_file file.kind && holds rule.condition file) as
     (λ test. file_lines len planned (cond test (Some rule) None) (claims_by (cond test (Some rule) None) file) file
-        ≡ cond (claim_some (claims_by (cond test (Some rule) None) file)) (lines_for kinds.File rule.number file) (alias_lines len planned file))
+    ≡ cond (claim_some (claims_by (cond test (Some rule) None) file)) (lines_for kinds.File rule.number file) (alias_lines len planned file))
     [ true ↦ refl | false ↦ refl ]
+
+-- those of a file of which it claims no byte, and that touches a planned one
+pub lines_of-alias : (rule : Rule) (len : ℕ) (planned : ℕ → Bool) (file : FileEntry) → claim_some (claims_on (rule ∷ []) file) ≡ false
+    → touches_planned len planned file ≡ true → lines_for kinds.Alias 0 file ≡ lines_of (rule ∷ []) len planned file
+lines_of-alias rule len planned file unclaimed touched =
+    sym (lines_of-one rule len planned file
+    ∙ ap (λ test. cond test (lines_for kinds.File rule.number file) (alias_lines len planned file)) unclaimed
+    ∙ ap (λ test. cond test (lines_for kinds.Alias 0 file) []) touched)
 
 -- the least byte that a set and the bytes of a file share tells whether the file touches the set
 pub touches-by_least : (len : ℕ) (file : FileEntry) (planned touched : List Range) (answer : Option ℕ) → ArePartsWithin len file.parts
@@ -142,6 +165,19 @@ touches-by_least len file planned touched answer within same least =
     ap is_some (same_as_least_below (λ byte. covers planned byte && covers touched byte) len answer least past)
     ∙ ap (λ (touched_set : ℕ → Bool). is_some (least_below (λ byte. covers planned byte && touched_set byte) len)) (fun_ext same)
 
+-- claims that end where an image does end in reach
+pub claims-in_reach : (end : ℕ) (claims : List Claim) → end ≤ 70368744177664 → All (EndsBy end) claims
+    → All (λ claim. EndsInReach claim.range) claims
+claims-in_reach end claims reach within =
+    All-weaker (EndsBy end) (λ claim. EndsInReach claim.range) (λ claim less. omega (arith, less)) claims within
+
+-- the claims on a tree's files end in reach
+pub all_claims-in_reach : (tree : FoundTree) (rules : List Rule) (files : List FileEntry) (claims : List Claim) → IsWithin tree
+    → files ≡ tree.files → claims ≡ all_claims rules files → All (λ claim. EndsInReach claim.range) claims
+all_claims-in_reach tree rules files claims within files_are claims_are =
+    All-same (λ claim. EndsInReach claim.range) claims (all_claims rules tree.files) (claims_are ∙ ap (all_claims rules) files_are)
+    (claims-in_reach tree.image_len (all_claims rules tree.files) within.in_reach (claims-within tree.image_len rules tree.files within.files))
+
 -- a map that paints as the claims on a tree's files do is the plan's, and ends where the image does
 pub ranges-within : (tree : FoundTree) (rules : List Rule) (ranges : List Claim) → IsWithin tree → IsFillMap ranges
     → ((byte : ℕ) → painted ranges byte ≡ planned_at rules tree.files byte) → All (EndsBy tree.image_len) ranges
@@ -150,10 +186,11 @@ ranges-within tree rules ranges within kept same =
     (λ byte behind. same byte ∙ painted-past (all_claims rules tree.files) tree.image_len byte
     (claims-within tree.image_len rules tree.files within.files) behind)
 
-pub claims-in_reach : (end : ℕ) (claims : List Claim) → end ≤ 70368744177664 → All (EndsBy end) claims
-    → All (λ claim. EndsInReach claim.range) claims
-claims-in_reach end claims reach within =
-    All-weaker (EndsBy end) (λ claim. EndsInReach claim.range) (λ claim less. omega (arith, less)) claims within
+-- and so in reach
+pub ranges-in_reach : (tree : FoundTree) (rules : List Rule) (ranges : List Claim) → IsWithin tree → IsFillMap ranges
+    → ((byte : ℕ) → painted ranges byte ≡ planned_at rules tree.files byte) → All (λ claim. EndsInReach claim.range) ranges
+ranges-in_reach tree rules ranges within kept same =
+    claims-in_reach tree.image_len ranges within.in_reach (ranges-within tree rules ranges within kept same)
 
 -- the parts of a plan, and that they are the plan
 pub plan-by_parts : (tree : FoundTree) (rules : List Rule) (ranges : List Claim) (planned : List Range) (lines : List Listed)

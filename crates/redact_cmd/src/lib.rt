@@ -1,6 +1,7 @@
 //! The commands of the program.
 #![tactic(auto)]
 
+mod plan;
 mod report;
 pub mod status;
 pub mod words;
