@@ -1,4 +1,4 @@
-//! The commands of the program.
+//! The commands of the program: the words that name them, what each one does, and what it answers.
 #![tactic(auto)]
 
 mod plan;
@@ -9,5 +9,6 @@ mod run;
 pub mod status;
 pub mod words;
 
+pub use run::run;
 pub use status::{Status, write_status};
 pub use words::{Command, parse_words};
