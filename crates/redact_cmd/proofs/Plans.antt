@@ -1,9 +1,8 @@
 -- Where the command `plan` has no plan.
-use Rattle.std.proofs.Common.{◌≡◌, ◌≢◌, ◌⊎◌, inl, inr, refl, ℕ, Option, Some, None, IfSome, IsSome, Ok, List, ◌∷◌, [], sym, subst, ◌∙◌}
+use Rattle.std.proofs.Common.{◌≡◌, ◌≢◌, ◌⊎◌, inl, inr, refl, ℕ, Option, Some, None, IfSome, IsSome, Ok, List, sym, subst, ◌∙◌}
 use Rattle.rule_defs.specs.declared.Rule.{Rule}
 use Rattle.rule_defs.specs.Reads.{Reads, SaysNoRules}
 use Rattle.rx_tree.specs.FoundTree.{FoundTree}
-use Rattle.volume_defs.specs.FirstForm.{FirstFault}
 use Rattle.volume_defs.specs.FirstTree.{first_tree}
 use Rattle.plan_defs.specs.Plan.{guarded_byte}
 use Rattle.redact_cmd.specs.PlanCommand.{IfBothTold, HasNoPlan, HasPlan}

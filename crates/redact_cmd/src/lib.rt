@@ -1,14 +1,14 @@
 //! The commands of the program: the words that name them, what each one does, and what it answers.
 #![tactic(auto)]
 
+mod commands;
 mod plan;
 mod reader;
 mod report;
 mod rules;
-mod run;
 pub mod status;
 pub mod words;
 
-pub use run::run;
+pub use commands::run;
 pub use status::{Status, write_status};
 pub use words::{Command, parse_words};

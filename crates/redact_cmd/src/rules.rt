@@ -6,13 +6,11 @@ ghost use Rattle.rule_defs.specs.Reads.{is_name_byte, is_plain_name, hex_value, 
 ghost use Rattle.redact_cmd.specs.FirstLine.{without_end, IsOtherLine};
 ghost use Rattle.redact_cmd.specs.Refusals.{IsTextRefusal};
 
-use std::alloc::Global;
-
+use crate::status::Status;
 use rule_defs::{Action, Condition, Rule};
 use rx_ranges::{NoMemory, Text};
 use rx_store::{ReadError, Source, read_to_end};
-
-use crate::status::Status;
+use std::alloc::Global;
 
 /// The length of the longest text in the first form: FILENAME and a quote, a name of 255 bytes, a quote, FILL and 0x,
 /// two digits and a line feed.

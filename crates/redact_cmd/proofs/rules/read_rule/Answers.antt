@@ -13,8 +13,8 @@ pub returns-in_default-clause-unbuilt : goal.returns-in_default-clause-unbuilt
 returns-in_default-clause-unbuilt g c = λ _.
     let told = rw c.in-Ok-Some.field-0-is at c.in-Ok-Some.ensures in
     IfSome_then (g.R.Source.rest c.args.source.now) {P = λ text. c.in-Ok-Some.text.items ≡ text} {Q = SaysNoRules} told.whole
-        (λ text whole. other-no_rules text
-            (λ name fill line. c.in_default.ensures.none name fill (subst (λ t. IsFirstLine t name fill) (sym (c.deref.ensures.value ∙ whole)) line)))
+    (λ text whole. other-no_rules text
+    (λ name fill line. c.in_default.ensures.none name fill (subst (λ t. IsFirstLine t name fill) (sym (c.deref.ensures.value ∙ whole)) line)))
 
 pub returns-in-Ok-clause-read : goal.returns-in-Ok-clause-read
 returns-in-Ok-clause-read g c =
@@ -22,5 +22,5 @@ returns-in-Ok-clause-read g c =
     let name = c.in-Some.name.now in
     let fill = c.in-Some.fill in
     IfSome_then (g.R.Source.rest c.args.source.now) {P = λ text. c.in-Ok-Some.text.items ≡ text} {Q = λ text. Reads text (c.in-Ok.rule ∷ [])} told.whole
-        (λ text whole. line-reads text name fill c.in-Ok.rule c.in-Ok.ensures
-            (subst (λ t. IsFirstLine t name fill) (c.deref.ensures.value ∙ whole) c.in-Some.ensures.found))
+    (λ text whole. line-reads text name fill c.in-Ok.rule c.in-Ok.ensures
+    (subst (λ t. IsFirstLine t name fill) (c.deref.ensures.value ∙ whole) c.in-Some.ensures.found))

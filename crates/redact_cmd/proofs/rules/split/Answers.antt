@@ -15,4 +15,4 @@ returns-in_err-name-clause-none c =
 pub returns-clause-found : goal.returns-clause-found
 returns-clause-found c =
     line-parts c.args.line.now _ _ c.in_ok-head.digits.now c.in_ok-name.name.now c.in_ok-quoted.ensures.cases.0 c.in_ok-quoted.ensures.cases.1
-        c.in_ok-head.ensures.cases.0 c.in_ok-head.ensures.cases.1 c.in_ok-head.ensures.cases.2 c.in_ok-name.ensures.cases.0 c.in_ok-name.ensures.cases.1
+    c.in_ok-head.ensures.cases.0 c.in_ok-head.ensures.cases.1 c.in_ok-head.ensures.cases.2 c.in_ok-name.ensures.cases.0 c.in_ok-name.ensures.cases.1

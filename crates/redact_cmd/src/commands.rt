@@ -1,4 +1,4 @@
-//! The top call.
+//! The commands.
 ghost use Rattle.std.specs.Prelude.{◌≡◌, ◌≢◌, ◌≤◌, ◌↔◌, ◌⊎◌, ◌∷◌, [], ℕ, List, Some, None, IfSome, IfOk, IfErr, OnOk, IsErrOf, IsSome, map, string_bytes};
 ghost use Rattle.disk_defs.specs.Disk.{told_image};
 ghost use Rattle.disk_defs.specs.Stream.{taken_with, TookPrefixOf};
@@ -8,20 +8,18 @@ ghost use Rattle.redact_cmd.specs.PlanCommand.{MeetsForms, HasReport, HasNoPlan,
 ghost use Rattle.redact_cmd.specs.Words.{command_of};
 ghost use Rattle.redact_cmd.specs.Refusals.{IsPlanRefusal, IsSilent};
 
-use std::alloc::Global;
-
-use rule_defs::Rule;
-use rx_ranges::Plan;
-use rx_store::{Sink, Source, Store};
-use rx_tree::Tree;
-use text_defs::ReportState;
-
 use crate::plan::{guarded_byte, make_plan};
 use crate::reader::read_tree;
 use crate::report::write_report;
 use crate::rules::read_rule;
 use crate::status::Status;
 use crate::words::{Command, parse_words};
+use rule_defs::Rule;
+use rx_ranges::Plan;
+use rx_store::{Sink, Source, Store};
+use rx_tree::Tree;
+use std::alloc::Global;
+use text_defs::ReportState;
 
 /// The plan of a tree and a rule, where no planned byte lies in the guard. Else it isn't built yet.
 fn unguarded_plan(alloc: Global, tree: &Tree, rule: &Rule) -> Result<Plan, Status>

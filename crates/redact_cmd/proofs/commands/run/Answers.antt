@@ -1,5 +1,5 @@
 use Rattle.redact_cmd.proofs.Plans.{done_or_no_memory}
-use Rattle.redact_cmd.proofs.run.run.Goals as goal
+use Rattle.redact_cmd.proofs.commands.run.Goals as goal
 
 pub returns-in-Some-Plan-clause-complete : goal.returns-in-Some-Plan-clause-complete
 returns-in-Some-Plan-clause-complete g c = λ _.
