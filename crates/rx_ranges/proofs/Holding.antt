@@ -1,6 +1,6 @@
 -- The claim that holds a byte.
-use Rattle.std.proofs.Common.{◌≡◌, ◌⊎◌, ℕ, ◌+◌, ◌<◌, ◌≤◌, Option, Some, None, List, [], ◌∷◌, length, drop, get_or, refl, sym, ◌∙◌, ap, subst, ⊎_elim, arith}
-use Rattle.std.proofs.lemmas.List.{drop_more, drop_all}
+use Rattle.std.proofs.Common.{◌≡◌, ◌⊎◌, ℕ, ◌+◌, ◌<◌, ◌≤◌, Some, List, ◌∷◌, length, drop, get_or, ◌∙◌, ap, subst, ⊎_elim}
+use Rattle.std.proofs.lemmas.List.{drop_more}
 use Rattle.range_defs.specs.declared.Claim.{Claim}
 use Rattle.range_defs.specs.Claims.{painted, lesser_paint, IsFillMap}
 use Rattle.range_defs.specs.RangeLaws.{in_range-before, in_range-behind}
@@ -28,4 +28,4 @@ left-found claims i byte d so_far within begun inside =
     let claim : Claim = get_or claims i d in
     let opened : drop i claims ≡ claim ∷ drop (i + 1) claims = drop_more claims i d within in
     so_far.1 ∙ ap (λ (xs : List Claim). painted xs byte) opened
-        ∙ painted-inside claim (drop (i + 1) claims) byte (subst (λ (xs : List Claim). IsFillMap xs) opened so_far.0) begun inside
+    ∙ painted-inside claim (drop (i + 1) claims) byte (subst (λ (xs : List Claim). IsFillMap xs) opened so_far.0) begun inside
