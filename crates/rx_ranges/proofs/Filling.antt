@@ -1,7 +1,6 @@
 -- Claims of one rule have one fill, and the claims taken so far.
-use Rattle.std.proofs.Common.{◌≡◌, ℕ, suc, ◌+◌, ◌<◌, ◌≤◌, ◌==◌, if◌then◌else◌, List, [], ◌∷◌, length, take, get_or, refl, sym, ◌∙◌, ap, ⊎_elim, arith}
+use Rattle.std.proofs.Common.{◌≡◌, ℕ, suc, ◌+◌, ◌<◌, ◌==◌, if◌then◌else◌, List, [], ◌∷◌, length, take, get_or, refl, sym, ◌∙◌, ap, ⊎_elim, arith}
 use Rattle.std.specs.List.{All}
-use Rattle.std.proofs.lemmas.List.{take_all}
 use Rattle.std.proofs.lemmas.List.Elements.{All-nil, All-cons}
 use Rattle.std.proofs.lemmas.Bool.{cases_eq, eq-eqb, ne_eqb}
 use Rattle.range_defs.specs.declared.Claim.{Claim}
@@ -55,6 +54,3 @@ laid-more claims laid laid' i d so_far within apart reach have added = (
   have,
   λ byte. added byte ∙ ap (λ paint. lesser_paint paint (paint_of (get_or claims i d) byte)) (so_far.3 byte) ∙ sym (painted-take claims i d byte within),
 )
-
-pub laid-all : (claims laid : List Claim) (i byte : ℕ) → Laid claims laid i → length claims ≤ i → painted laid byte ≡ painted claims byte
-laid-all claims laid i byte so_far done = so_far.3 byte ∙ ap (λ (xs : List Claim). painted xs byte) (take_all i claims done)

@@ -1,7 +1,7 @@
 -- The bytes of the first so many ranges.
-use Rattle.std.proofs.Common.{◌≡◌, ℕ, ◌+◌, ◌<◌, ◌≤◌, Bool, true, false, ◌||◌, List, [], ◌∷◌, ◌++◌, length, take, get_or, refl, sym, ◌∙◌, ap, arith}
+use Rattle.std.proofs.Common.{◌≡◌, ℕ, ◌+◌, ◌<◌, Bool, true, false, ◌||◌, List, [], ◌∷◌, ◌++◌, length, take, get_or, refl, sym, ◌∙◌, ap, arith}
 use Rattle.std.specs.List.{All}
-use Rattle.std.proofs.lemmas.List.{take_more, take_all}
+use Rattle.std.proofs.lemmas.List.{take_more}
 use Rattle.std.proofs.lemmas.Bool.Decides.{nat_tests}
 use Rattle.range_defs.specs.declared.Range.{Range}
 use Rattle.range_defs.specs.Places.{in_range, covers, IsRangeList, EndsInReach}
@@ -52,6 +52,3 @@ gathered-same ranges kept i d so_far within empty = (
       ∙ ap (λ (t : Bool). covers (take i ranges) byte || t) (sym (in_range-empty (get_or ranges i d) byte empty))
       ∙ sym (covers-take ranges i d byte within),
 )
-
-pub gathered-all : (ranges kept : List Range) (i : ℕ) → Gathered ranges kept i → length ranges ≤ i → (byte : ℕ) → covers kept byte ≡ covers ranges byte
-gathered-all ranges kept i so_far done byte = so_far.2 byte ∙ ap (λ (xs : List Range). covers xs byte) (take_all i ranges done)

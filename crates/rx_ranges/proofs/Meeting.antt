@@ -1,6 +1,6 @@
 -- The least byte that two sets share.
 use Rattle.std.proofs.Common.{◌≡◌, ℕ, ◌+◌, ◌-◌, ◌<◌, ◌≤◌, Bool, true, false, ◌&&◌, max, Option, Some, None, List, ◌∷◌, length, drop, get_or, refl, sym, ◌∙◌, ap, subst, ⊎_elim, arith}
-use Rattle.std.proofs.lemmas.List.{drop_more, drop_all}
+use Rattle.std.proofs.lemmas.List.{drop_more}
 use Rattle.std.proofs.lemmas.Bool.{cases_lt}
 use Rattle.range_defs.specs.declared.Range.{Range}
 use Rattle.range_defs.specs.Places.{covers, IsRangeList, IsLeast}
@@ -112,11 +112,3 @@ found a b left right mine theirs so_far at in_mine in_theirs =
     least-same (both a b) (both (mine ∷ drop (left + 1) a) (theirs ∷ drop (right + 1) b)) (Some (max mine.at theirs.at))
     (λ byte. so_far.2 byte ∙ both-opened a b left right mine theirs byte at)
     (found-here mine theirs (drop (left + 1) a) (drop (right + 1) b) (mine-kept a b left right mine theirs so_far at) (theirs-kept a b left right mine theirs so_far at) in_mine in_theirs)
-
-pub none-left : (a b : List Range) (left right : ℕ) → Left a b left right → length a ≤ left → IsLeast (both a b) None
-none-left a b left right so_far done = λ byte.
-    so_far.2 byte ∙ both-first (drop left a) (drop right b) byte (ap (λ (xs : List Range). covers xs byte) (drop_all left a done))
-
-pub none-right : (a b : List Range) (left right : ℕ) → Left a b left right → length b ≤ right → IsLeast (both a b) None
-none-right a b left right so_far done = λ byte.
-    so_far.2 byte ∙ both-second (drop left a) (drop right b) byte (ap (λ (ys : List Range). covers ys byte) (drop_all right b done))
