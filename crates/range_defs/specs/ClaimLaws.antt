@@ -165,9 +165,9 @@ some_none paint same = cc
 lesser_some : (paint other : ℕ × ℕ) → lesser_paint (Some paint) (Some other) ≡ None → ⊥
 lesser_some paint other none =
     ⊎_elim
-        (λ first. some_none paint (sym (cond-true (leb paint.0 other.0) (Some paint) (Some other) first) ∙ none))
-        (λ second. some_none other (sym (cond-false (leb paint.0 other.0) (Some paint) (Some other) second) ∙ none))
-        (cases_Bool (leb paint.0 other.0))
+    (λ first. some_none paint (sym (cond-true (leb paint.0 other.0) (Some paint) (Some other) first) ∙ none))
+    (λ second. some_none other (sym (cond-false (leb paint.0 other.0) (Some paint) (Some other) second) ∙ none))
+    (cases_Bool (leb paint.0 other.0))
 
 none_later : (paint other : Option (ℕ × ℕ)) → lesser_paint paint other ≡ None → other ≡ None
 none_later None other none = none
@@ -181,12 +181,12 @@ ends_where_painted [] end kept out = All-nil (EndsBy end)
 ends_where_painted (claim ∷ claims) end kept out =
     let last : ℕ = claim.range.at + (claim.range.len - 1) in
     let fits : claim.range.at + claim.range.len ≤ end =
-        ⊎_elim
-            (λ before. omega (arith, kept.0))
-            (λ past. absurd (some_none (claim.rule, claim.fill) (sym (painted-inside claim claims last kept (omega arith) (omega (arith, kept.0))) ∙ out last past)))
-            (cases_lt last end) in
+    ⊎_elim
+    (λ before. omega (arith, kept.0))
+    (λ past. absurd (some_none (claim.rule, claim.fill) (sym (painted-inside claim claims last kept (omega arith) (omega (arith, kept.0))) ∙ out last past)))
+    (cases_lt last end) in
     All-cons (EndsBy end) claim claims fits
-        (ends_where_painted claims end kept.2 (λ byte behind. none_later (paint_of claim byte) (painted claims byte) (out byte behind)))
+    (ends_where_painted claims end kept.2 (λ byte behind. none_later (paint_of claim byte) (painted claims byte) (out byte behind)))
 
 -- a canonical list of claims that paints each byte as a function says, and no claim of which ends behind a byte, is
 -- the list of the longest claims in front of that byte

@@ -159,12 +159,12 @@ ends_where_covered [] end kept out = All-nil (EndsBy end)
 ends_where_covered (range ∷ ranges) end kept out =
     let last : ℕ = range.at + (range.len - 1) in
     let fits : range.at + range.len ≤ end =
-        ⊎_elim
-            (λ before. omega (arith, kept.0))
-            (λ past. absurd (true≢false (sym (covers-inside range ranges last (omega arith) (omega (arith, kept.0))) ∙ out last past)))
-            (cases_lt last end) in
+    ⊎_elim
+    (λ before. omega (arith, kept.0))
+    (λ past. absurd (true≢false (sym (covers-inside range ranges last (omega arith) (omega (arith, kept.0))) ∙ out last past)))
+    (cases_lt last end) in
     All-cons (EndsBy end) range ranges fits
-        (ends_where_covered ranges end kept.2 (λ byte behind. or_false (in_range range byte) (covers ranges byte) (out byte behind)))
+    (ends_where_covered ranges end kept.2 (λ byte behind. or_false (in_range range byte) (covers ranges byte) (out byte behind)))
 
 -- a canonical list with the bytes that pass a test, no range of which ends behind a byte, is the list of the longest
 -- ranges in front of that byte
