@@ -5,3 +5,5 @@ pub mod RowsT
 pub mod FirstTree
 pub mod FirstFootprint
 pub mod FirstReader
+pub mod FirstKept
+pub mod FirstInvariants
