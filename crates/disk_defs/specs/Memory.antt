@@ -1,5 +1,5 @@
 -- A store, a source and a sink in memory: what contracts see of them.
-use Rattle.std.specs.Prelude.{ℕ, Some, List, [], length, Result, refl}
+use Rattle.std.specs.Prelude.{ℕ, Option, Some, List, [], length, Result, refl}
 use Rattle.disk_defs.specs.Count.{one_more, faults_after}
 use Rattle.disk_defs.specs.Disk.{Held, State, TellsItsSizes}
 use Rattle.disk_defs.specs.declared.Area.TheVariants.{Image, Journal}
@@ -26,3 +26,24 @@ tells_its_sizes_in_memory store Journal = refl
 -- a store after a call with this result that changed nothing
 abbrev pub after_call : {T E : Type 0} → Result T E → StoreInMemory → StoreInMemory
 after_call result store = record store { calls = one_more store.calls; faults = faults_after result store.faults }
+
+-- a source in memory: what is still to come, the number of the read that fails, and how many reads were made and failed
+pub record SourceInMemory : Type 0 where
+  pub rest : List ℕ
+  pub failing : Option ℕ
+  pub reads : ℕ
+  pub faults : ℕ
+
+-- a source of this text, before its first read
+abbrev pub source_of : List ℕ → Option ℕ → SourceInMemory
+source_of text failing = record { rest = text; failing = failing; reads = 0; faults = 0 }
+
+-- a sink in memory: what it took, how much it takes in all, and how many writes failed
+pub record SinkInMemory : Type 0 where
+  pub bytes : List ℕ
+  pub room : ℕ
+  pub faults : ℕ
+
+-- a sink with this much room, before its first write
+abbrev pub sink_with_room : ℕ → SinkInMemory
+sink_with_room room = record { bytes = []; room = room; faults = 0 }

@@ -1,5 +1,5 @@
 -- Laws of streams: what was taken piece by piece was taken whole.
-use Rattle.std.specs.Prelude.{◌≡◌, ℕ, ◌+◌, ◌<◌, Option, None, Some, List, ◌++◌, length, take, drop, refl}
+use Rattle.std.specs.Prelude.{◌≡◌, ℕ, ◌+◌, ◌<◌, Option, None, Some, Result, Ok, Err, OnErr, List, ◌++◌, length, take, drop, refl}
 use Rattle.std.specs.List.{flat_map, slice_index_or}
 use Rattle.std.proofs.Common.{sym, subst, suc, ◌∙◌, ap, append_assoc, arith, length-append}
 use Rattle.std.proofs.Math.Seq.{take-append-add, drop-cons}
@@ -29,6 +29,13 @@ took_prefix-behind before mid after first second whole h =
         ∙ ap (taken_with before) (sym (take-append-add first second h.0))
     )
 
+-- after a first text was taken, some first bytes of what follows it in a whole are first bytes of the whole
+pub took_prefix-within : (before mid after : Option (List ℕ)) (first own more whole : List ℕ) → mid ≡ taken_with before first
+    → TookPrefixOf mid after own → first ++ (own ++ more) ≡ whole → TookPrefixOf before after whole
+took_prefix-within before mid after first own more whole taken h is =
+    subst (λ text. TookPrefixOf before after text) is
+        (took_prefix-behind before mid after first (own ++ more) taken (took_prefix-of_longer mid after own more h))
+
 -- the pieces of a list up to one of its items, that item's and those of the rest are all of them
 pub flat_map-around : {X : Type 0} (piece : X → List ℕ) (xs : List X) (i : ℕ) (d : X) → i < length xs
     → flat_map piece xs ≡ flat_map piece (take i xs) ++ (piece (slice_index_or xs i d) ++ flat_map piece (drop (suc i) xs))
@@ -37,11 +44,22 @@ flat_map-around piece xs i d h =
         ∙ ap (λ rest. flat_map piece (take i xs) ++ flat_map piece rest) (drop-cons xs i d h)
 
 -- the pieces before an item were taken, and some first bytes of the item's own: those are first bytes of all
-pub took_prefix-in_pieces : {X : Type 0} (piece : X → List ℕ) (xs : List X) (i : ℕ) (x : X) (before mid after : Option (List ℕ)) → i < length xs
-    → x ≡ slice_index_or xs i x → mid ≡ taken_with before (flat_map piece (take i xs)) → TookPrefixOf mid after (piece x)
+pub took_prefix-in_pieces : {X : Type 0} (piece : X → List ℕ) (xs : List X) (i : ℕ) (d : X) (own : List ℕ) (before mid after : Option (List ℕ))
+    → i < length xs → own ≡ piece (slice_index_or xs i d) → mid ≡ taken_with before (flat_map piece (take i xs)) → TookPrefixOf mid after own
     → TookPrefixOf before after (flat_map piece xs)
-took_prefix-in_pieces piece xs i x before mid after low is whole h =
-    let own : TookPrefixOf mid after (piece (slice_index_or xs i x)) = subst (λ y. TookPrefixOf mid after (piece y)) is h in
-    subst (λ text. TookPrefixOf before after text) (sym (flat_map-around piece xs i x low))
-        (took_prefix-behind before mid after (flat_map piece (take i xs)) (piece (slice_index_or xs i x) ++ flat_map piece (drop (suc i) xs))
-            whole (took_prefix-of_longer mid after (piece (slice_index_or xs i x)) (flat_map piece (drop (suc i) xs)) own))
+took_prefix-in_pieces piece xs i d own before mid after low is whole h =
+    let more = flat_map piece (drop (suc i) xs) in
+    let all = ap (λ text. flat_map piece (take i xs) ++ (text ++ more)) is ∙ sym (flat_map-around piece xs i d low) in
+    took_prefix-within before mid after (flat_map piece (take i xs)) own more (flat_map piece xs) whole h all
+
+-- what holds holds of an error
+pub on_err : {T E P : Type 0} (r : Result T E) → P → OnErr r P
+on_err (Ok x) p = tt
+on_err (Err e) p = p
+
+-- the same as `took_prefix-within`, of the last text of a whole, where an error comes
+pub took_prefix-last : {T E : Type 0} (r : Result T E) (before mid after : Option (List ℕ)) (first own whole : List ℕ) → mid ≡ taken_with before first
+    → OnErr r (TookPrefixOf mid after own) → first ++ own ≡ whole → OnErr r (TookPrefixOf before after whole)
+took_prefix-last (Ok x) before mid after first own whole taken h is = tt
+took_prefix-last (Err e) before mid after first own whole taken h is =
+    subst (λ text. TookPrefixOf before after text) is (took_prefix-behind before mid after first own taken h)

@@ -1,10 +1,9 @@
 -- Laws on claims: the canonical list of claims is the one list of the longest claims, and so the only one.
-use Rattle.std.proofs.Common.{◌≡◌, ◌≢◌, ℕ, zero, suc, ◌+◌, ◌-◌, ◌<◌, ◌≤◌, Bool, true, false, ◌&&◌, ◌||◌, cond, leb, ltb, eqb, Option, Some, None, List, [], ◌∷◌, length, refl, sym, ◌∙◌, ap, subst, ⊎_elim, arith, rules}
+use Rattle.std.proofs.Common.{◌≡◌, ℕ, zero, suc, ◌+◌, ◌-◌, ◌<◌, ◌≤◌, Bool, true, false, cond, Option, Some, None, List, [], ◌∷◌, refl, sym, ◌∙◌, ap, subst, ⊎_elim, arith}
 use Rattle.std.specs.List.{All}
 use Rattle.std.proofs.lemmas.List.Elements.{All-head, All-tail, All-cons, All-nil}
 use Rattle.std.proofs.lemmas.Bool.{cases_lt, cases_eq}
 use Rattle.std.proofs.lemmas.Bool.Decides.{nat_tests}
-use Rattle.range_defs.specs.declared.Range.{Range}
 use Rattle.range_defs.specs.declared.Claim.{Claim}
 use Rattle.range_defs.specs.Places.{in_range}
 use Rattle.range_defs.specs.RangeLaws.{in_range-before, in_range-inside, in_range-behind}
@@ -19,10 +18,10 @@ abbrev pub BeginsFrom : ℕ → List Claim → Type 0
 BeginsFrom byte [] = Unit {0}
 BeginsFrom byte (claim ∷ claims) = byte ≤ claim.range.at
 
-paint_of-out : (claim : Claim) (byte : ℕ) → in_range claim.range byte ≡ false → paint_of claim byte ≡ None
+pub paint_of-out : (claim : Claim) (byte : ℕ) → in_range claim.range byte ≡ false → paint_of claim byte ≡ None
 paint_of-out claim byte out = rw out refl
 
-paint_of-in : (claim : Claim) (byte : ℕ) → in_range claim.range byte ≡ true → paint_of claim byte ≡ Some (claim.rule, claim.fill)
+pub paint_of-in : (claim : Claim) (byte : ℕ) → in_range claim.range byte ≡ true → paint_of claim byte ≡ Some (claim.rule, claim.fill)
 paint_of-in claim byte inside = rw inside refl
 
 begins_from : (byte end rule : ℕ) (claims : List Claim) → byte ≤ end → BeginsApart end rule claims → BeginsFrom byte claims
@@ -38,17 +37,17 @@ pub painted-before : (claims : List Claim) (byte : ℕ) → IsFillMap claims →
 painted-before [] byte kept before = refl
 painted-before (claim ∷ claims) byte kept before =
     let rest : painted claims byte ≡ None =
-        painted-before claims byte kept.2 (begins_from (suc byte) (claim.range.at + claim.range.len) claim.rule claims (omega (arith, before)) kept.1) in
+    painted-before claims byte kept.2 (begins_from (suc byte) (claim.range.at + claim.range.len) claim.rule claims (omega (arith, before)) kept.1) in
     rw (paint_of-out claim byte (in_range-before claim.range byte before)) rest
 
-painted-after : (claim : Claim) (claims : List Claim) (byte : ℕ) → claim.range.at + claim.range.len ≤ byte → painted (claim ∷ claims) byte ≡ painted claims byte
+pub painted-after : (claim : Claim) (claims : List Claim) (byte : ℕ) → claim.range.at + claim.range.len ≤ byte → painted (claim ∷ claims) byte ≡ painted claims byte
 painted-after claim claims byte behind = rw (paint_of-out claim byte (in_range-behind claim.range byte behind)) refl
 
-painted-inside : (claim : Claim) (claims : List Claim) (byte : ℕ) → IsFillMap (claim ∷ claims) → claim.range.at ≤ byte → byte < claim.range.at + claim.range.len
+pub painted-inside : (claim : Claim) (claims : List Claim) (byte : ℕ) → IsFillMap (claim ∷ claims) → claim.range.at ≤ byte → byte < claim.range.at + claim.range.len
     → painted (claim ∷ claims) byte ≡ Some (claim.rule, claim.fill)
 painted-inside claim claims byte kept begun inside =
     let rest : painted claims byte ≡ None =
-        painted-before claims byte kept.2 (begins_from (suc byte) (claim.range.at + claim.range.len) claim.rule claims (omega (arith, inside)) kept.1) in
+    painted-before claims byte kept.2 (begins_from (suc byte) (claim.range.at + claim.range.len) claim.rule claims (omega (arith, inside)) kept.1) in
     rw (paint_of-in claim byte (in_range-inside claim.range byte begun inside)) (rw rest refl)
 
 -- the claim with its first byte left out
@@ -114,8 +113,8 @@ longest-one : (paint : ℕ → Option (ℕ × ℕ)) (from count end : ℕ) (clai
     → AgreeFrom from end (painted (claim ∷ claims)) paint → claims ≡ longest_claims paint (suc from) count
 longest-one paint from count end claim claims one begun later kept within agree =
     later claims kept.2 (begins_from (suc from) (claim.range.at + claim.range.len) claim.rule claims (omega arith) kept.1)
-        (All-tail (EndsBy end) claim claims within)
-        (λ byte low high. sym (painted-after claim claims byte (omega arith)) ∙ agree byte (omega arith) high)
+    (All-tail (EndsBy end) claim claims within)
+    (λ byte low high. sym (painted-after claim claims byte (omega arith)) ∙ agree byte (omega arith) high)
 
 -- where the first claim is longer, its other bytes and the other claims are the longest behind the first byte
 longest-long : (paint : ℕ → Option (ℕ × ℕ)) (from count end : ℕ) (claim : Claim) (claims : List Claim) → 1 < claim.range.len
@@ -123,8 +122,8 @@ longest-long : (paint : ℕ → Option (ℕ × ℕ)) (from count end : ℕ) (cla
     → AgreeFrom from end (painted (claim ∷ claims)) paint → shorter claim ∷ claims ≡ longest_claims paint (suc from) count
 longest-long paint from count end claim claims long begun later kept within agree =
     later (shorter claim ∷ claims) (shorter-kept claim claims long kept) (shorter-begins from claim begun)
-        (All-cons (EndsBy end) (shorter claim) claims (shorter-ends end claim kept.0 (All-head (EndsBy end) claim claims within)) (All-tail (EndsBy end) claim claims within))
-        (λ byte low high. painted-shorter claim claims byte (omega arith) kept.0 ∙ agree byte (omega arith) high)
+    (All-cons (EndsBy end) (shorter claim) claims (shorter-ends end claim kept.0 (All-head (EndsBy end) claim claims within)) (All-tail (EndsBy end) claim claims within))
+    (λ byte low high. painted-shorter claim claims byte (omega arith) kept.0 ∙ agree byte (omega arith) high)
 
 longest-begun : (paint : ℕ → Option (ℕ × ℕ)) (from count end : ℕ) (claim : Claim) (claims : List Claim) → claim.range.at ≡ from
     → AreLongest paint (suc from) count end → IsFillMap (claim ∷ claims) → All (EndsBy end) (claim ∷ claims)
@@ -133,14 +132,14 @@ longest-begun paint from count end claim claims begun later kept within agree =
     let fits : claim.range.at + claim.range.len ≤ end = All-head (EndsBy end) claim claims within in
     let with : ℕ × ℕ = (claim.rule, claim.fill) in
     let taken : paint from ≡ Some with =
-        sym (agree from (omega arith) (omega (arith, kept.0))) ∙ painted-inside claim claims from kept (omega arith) (omega (arith, kept.0)) in
+    sym (agree from (omega arith) (omega (arith, kept.0))) ∙ painted-inside claim claims from kept (omega arith) (omega (arith, kept.0)) in
     ⊎_elim
-        (λ one. longest-in paint from count with (claim ∷ claims) claims taken (longest-one paint from count end claim claims one begun later kept within agree)
-            (in_front-apart claim claims one kept.1 ∙ ap (λ byte. in_front byte (Some with) claims) begun))
-        (λ other. let long : 1 < claim.range.len = omega (arith, kept.0, other) in
-            longest-in paint from count with (claim ∷ claims) (shorter claim ∷ claims) taken (longest-long paint from count end claim claims long begun later kept within agree)
-            (in_front-joins claim claims kept.0 ∙ ap (λ byte. in_front byte (Some with) (shorter claim ∷ claims)) begun))
-        (cases_eq claim.range.len 1)
+    (λ one. longest-in paint from count with (claim ∷ claims) claims taken (longest-one paint from count end claim claims one begun later kept within agree)
+    (in_front-apart claim claims one kept.1 ∙ ap (λ byte. in_front byte (Some with) claims) begun))
+    (λ other. let long : 1 < claim.range.len = omega (arith, kept.0, other) in
+    longest-in paint from count with (claim ∷ claims) (shorter claim ∷ claims) taken (longest-long paint from count end claim claims long begun later kept within agree)
+    (in_front-joins claim claims kept.0 ∙ ap (λ byte. in_front byte (Some with) (shorter claim ∷ claims)) begun))
+    (cases_eq claim.range.len 1)
 
 -- a canonical list that lies between two bytes is the list of the longest claims there
 pub longest-from : (paint : ℕ → Option (ℕ × ℕ)) (from count end : ℕ) → end ≡ from + count → AreLongest paint from count end
@@ -150,15 +149,15 @@ longest-from paint from zero end total (claim ∷ claims) kept begins within agr
     absurd (omega (arith, kept.0, begins))
 longest-from paint from (suc count) end total [] kept begins within agree =
     longest-out paint from count [] (sym (agree from (omega arith) (omega arith)))
-        (longest-from paint (suc from) count end (omega arith) [] tt tt within (λ byte low high. agree byte (omega arith) high))
+    (longest-from paint (suc from) count end (omega arith) [] tt tt within (λ byte low high. agree byte (omega arith) high))
 longest-from paint from (suc count) end total (claim ∷ claims) kept begins within agree =
     let later : AreLongest paint (suc from) count end = longest-from paint (suc from) count end (omega arith) in
     ⊎_elim
-        (λ before. longest-out paint from count (claim ∷ claims)
-            (sym (agree from (omega arith) (omega arith)) ∙ painted-before (claim ∷ claims) from kept before)
-            (later (claim ∷ claims) kept before within (λ byte low high. agree byte (omega arith) high)))
-        (λ at. longest-begun paint from count end claim claims (omega (arith, begins, at)) later kept within agree)
-        (cases_lt from claim.range.at)
+    (λ before. longest-out paint from count (claim ∷ claims)
+    (sym (agree from (omega arith) (omega arith)) ∙ painted-before (claim ∷ claims) from kept before)
+    (later (claim ∷ claims) kept before within (λ byte low high. agree byte (omega arith) high)))
+    (λ at. longest-begun paint from count end claim claims (omega (arith, begins, at)) later kept within agree)
+    (cases_lt from claim.range.at)
 
 -- a canonical list of claims that paints each byte as a function says, and no claim of which ends behind a byte, is
 -- the list of the longest claims in front of that byte
@@ -183,4 +182,4 @@ pub same_fill_map : (a b : List Claim) → IsFillMap a → IsFillMap b → ((byt
 same_fill_map a b kept_a kept_b agree =
     let end : ℕ = end_of a + end_of b in
     same_as_longest_claims (painted b) end a kept_a agree (end_of-ends a end (omega arith))
-        ∙ sym (same_as_longest_claims (painted b) end b kept_b (λ byte. refl) (end_of-ends b end (omega arith)))
+    ∙ sym (same_as_longest_claims (painted b) end b kept_b (λ byte. refl) (end_of-ends b end (omega arith)))

@@ -43,8 +43,8 @@ in_front byte None claims = claims
 in_front byte (Some paint) [] = one_byte byte paint ∷ []
 in_front byte (Some paint) (claim ∷ claims) =
     if claim.range.at == suc byte && claim.rule == paint.0
-        then record { range = record { at = byte; len = suc claim.range.len }; rule = paint.0; fill = paint.1 } ∷ claims
-        else (one_byte byte paint ∷ claim ∷ claims)
+    then record { range = record { at = byte; len = suc claim.range.len }; rule = paint.0; fill = paint.1 } ∷ claims
+    else (one_byte byte paint ∷ claim ∷ claims)
 
 -- the longest claims of equal rule over `count` bytes from `from` on, where each byte has the paint that the
 -- function gives it

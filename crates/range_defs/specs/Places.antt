@@ -31,8 +31,8 @@ abbrev pub in_front : ℕ → List Range → List Range
 in_front byte [] = record { at = byte; len = 1 } ∷ []
 in_front byte (range ∷ ranges) =
     if range.at == suc byte
-        then record { at = byte; len = suc range.len } ∷ ranges
-        else (record { at = byte; len = 1 } ∷ range ∷ ranges)
+    then record { at = byte; len = suc range.len } ∷ ranges
+    else (record { at = byte; len = 1 } ∷ range ∷ ranges)
 
 -- the longest ranges of the bytes that pass a test, of `count` bytes from `from` on
 unfoldable pub longest_ranges : (ℕ → Bool) → ℕ → ℕ → List Range

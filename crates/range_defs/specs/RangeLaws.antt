@@ -33,10 +33,10 @@ covers-before (range ∷ next ∷ ranges) byte kept before =
     let rest : covers (next ∷ ranges) byte ≡ false = covers-before (next ∷ ranges) byte kept.2 (omega (arith, kept.1, kept.0)) in
     rw (in_range-before range byte before) rest
 
-covers-after : (range : Range) (ranges : List Range) (byte : ℕ) → range.at + range.len ≤ byte → covers (range ∷ ranges) byte ≡ covers ranges byte
+pub covers-after : (range : Range) (ranges : List Range) (byte : ℕ) → range.at + range.len ≤ byte → covers (range ∷ ranges) byte ≡ covers ranges byte
 covers-after range ranges byte behind = rw (in_range-behind range byte behind) refl
 
-covers-inside : (range : Range) (ranges : List Range) (byte : ℕ) → range.at ≤ byte → byte < range.at + range.len → covers (range ∷ ranges) byte ≡ true
+pub covers-inside : (range : Range) (ranges : List Range) (byte : ℕ) → range.at ≤ byte → byte < range.at + range.len → covers (range ∷ ranges) byte ≡ true
 covers-inside range ranges byte begun inside = rw (in_range-inside range byte begun inside) refl
 
 -- the range with its first byte left out
@@ -105,7 +105,7 @@ longest-one : (test : ℕ → Bool) (from count end : ℕ) (range : Range) (rang
     → AgreeFrom from end (covers (range ∷ ranges)) test → ranges ≡ longest_ranges test (suc from) count
 longest-one test from count end range ranges one begun later kept within agree =
     later ranges kept.2 (begins_from (suc from) (range.at + range.len) ranges (omega arith) kept.1) (All-tail (EndsBy end) range ranges within)
-        (λ byte low high. sym (covers-after range ranges byte (omega arith)) ∙ agree byte (omega arith) high)
+    (λ byte low high. sym (covers-after range ranges byte (omega arith)) ∙ agree byte (omega arith) high)
 
 -- where the first range is longer, its other bytes and the other ranges are the longest behind the first byte
 longest-long : (test : ℕ → Bool) (from count end : ℕ) (range : Range) (ranges : List Range) → 1 < range.len → range.at ≡ from
@@ -113,8 +113,8 @@ longest-long : (test : ℕ → Bool) (from count end : ℕ) (range : Range) (ran
     → AgreeFrom from end (covers (range ∷ ranges)) test → shorter range ∷ ranges ≡ longest_ranges test (suc from) count
 longest-long test from count end range ranges long begun later kept within agree =
     later (shorter range ∷ ranges) (shorter-kept range ranges long kept) (shorter-begins from range begun)
-        (All-cons (EndsBy end) (shorter range) ranges (shorter-ends end range kept.0 (All-head (EndsBy end) range ranges within)) (All-tail (EndsBy end) range ranges within))
-        (λ byte low high. covers-shorter range ranges byte (omega arith) kept.0 ∙ agree byte (omega arith) high)
+    (All-cons (EndsBy end) (shorter range) ranges (shorter-ends end range kept.0 (All-head (EndsBy end) range ranges within)) (All-tail (EndsBy end) range ranges within))
+    (λ byte low high. covers-shorter range ranges byte (omega arith) kept.0 ∙ agree byte (omega arith) high)
 
 longest-begun : (test : ℕ → Bool) (from count end : ℕ) (range : Range) (ranges : List Range) → range.at ≡ from
     → AreLongest test (suc from) count end → IsRangeList (range ∷ ranges) → All (EndsBy end) (range ∷ ranges)
@@ -123,12 +123,12 @@ longest-begun test from count end range ranges begun later kept within agree =
     let fits : range.at + range.len ≤ end = All-head (EndsBy end) range ranges within in
     let taken : test from ≡ true = sym (agree from (omega arith) (omega (arith, kept.0))) ∙ covers-inside range ranges from (omega arith) (omega (arith, kept.0)) in
     ⊎_elim
-        (λ one. longest-in test from count (range ∷ ranges) ranges taken (longest-one test from count end range ranges one begun later kept within agree)
-            (in_front-apart range ranges one kept.1 ∙ ap (λ byte. in_front byte ranges) begun))
-        (λ other. let long : 1 < range.len = omega (arith, kept.0, other) in
-            longest-in test from count (range ∷ ranges) (shorter range ∷ ranges) taken (longest-long test from count end range ranges long begun later kept within agree)
-            (in_front-joins range ranges kept.0 ∙ ap (λ byte. in_front byte (shorter range ∷ ranges)) begun))
-        (cases_eq range.len 1)
+    (λ one. longest-in test from count (range ∷ ranges) ranges taken (longest-one test from count end range ranges one begun later kept within agree)
+    (in_front-apart range ranges one kept.1 ∙ ap (λ byte. in_front byte ranges) begun))
+    (λ other. let long : 1 < range.len = omega (arith, kept.0, other) in
+    longest-in test from count (range ∷ ranges) (shorter range ∷ ranges) taken (longest-long test from count end range ranges long begun later kept within agree)
+    (in_front-joins range ranges kept.0 ∙ ap (λ byte. in_front byte (shorter range ∷ ranges)) begun))
+    (cases_eq range.len 1)
 
 -- a canonical list that lies between two bytes is the list of the longest ranges there
 pub longest-from : (test : ℕ → Bool) (from count end : ℕ) → end ≡ from + count → AreLongest test from count end
@@ -138,15 +138,15 @@ longest-from test from zero end total (range ∷ ranges) kept begins within agre
     absurd (omega (arith, kept.0, begins))
 longest-from test from (suc count) end total [] kept begins within agree =
     longest-out test from count [] (sym (agree from (omega arith) (omega arith)))
-        (longest-from test (suc from) count end (omega arith) [] tt tt within (λ byte low high. agree byte (omega arith) high))
+    (longest-from test (suc from) count end (omega arith) [] tt tt within (λ byte low high. agree byte (omega arith) high))
 longest-from test from (suc count) end total (range ∷ ranges) kept begins within agree =
     let later : AreLongest test (suc from) count end = longest-from test (suc from) count end (omega arith) in
     ⊎_elim
-        (λ before. longest-out test from count (range ∷ ranges)
-            (sym (agree from (omega arith) (omega arith)) ∙ covers-before (range ∷ ranges) from kept before)
-            (later (range ∷ ranges) kept before within (λ byte low high. agree byte (omega arith) high)))
-        (λ at. longest-begun test from count end range ranges (omega (arith, begins, at)) later kept within agree)
-        (cases_lt from range.at)
+    (λ before. longest-out test from count (range ∷ ranges)
+    (sym (agree from (omega arith) (omega arith)) ∙ covers-before (range ∷ ranges) from kept before)
+    (later (range ∷ ranges) kept before within (λ byte low high. agree byte (omega arith) high)))
+    (λ at. longest-begun test from count end range ranges (omega (arith, begins, at)) later kept within agree)
+    (cases_lt from range.at)
 
 -- a canonical list with the bytes that pass a test, no range of which ends behind a byte, is the list of the longest
 -- ranges in front of that byte
@@ -171,4 +171,4 @@ pub same_range_list : (a b : List Range) → IsRangeList a → IsRangeList b →
 same_range_list a b kept_a kept_b agree =
     let end : ℕ = end_of a + end_of b in
     same_as_longest_ranges (covers b) end a kept_a agree (end_of-ends a end (omega arith))
-        ∙ sym (same_as_longest_ranges (covers b) end b kept_b (λ byte. refl) (end_of-ends b end (omega arith)))
+    ∙ sym (same_as_longest_ranges (covers b) end b kept_b (λ byte. refl) (end_of-ends b end (omega arith)))

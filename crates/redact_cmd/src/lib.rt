@@ -1,4 +1,9 @@
-//! The commands.
+//! The commands of the program.
 #![tactic(auto)]
 
 mod report;
+pub mod status;
+pub mod words;
+
+pub use status::{Status, write_status};
+pub use words::{Command, parse_words};

@@ -1,10 +1,13 @@
 //! Which rule fills which byte, as a sorted list of claims.
-ghost use Rattle.std.specs.Prelude.{◌≡◌, All, IfOk};
-ghost use Rattle.range_defs.specs.Claims.{painted, IsFillMap};
+ghost use Rattle.std.specs.Prelude.{◌≡◌, ℕ, All, IfOk};
+ghost use Rattle.range_defs.specs.Claims.{painted, IsFillMap, HaveOneFill};
+ghost use Rattle.range_defs.specs.Places.{EndsInReach};
 
-use std::marker::Model;
-
+use crate::laying::{joined, with_claim};
+use crate::text::NoMemory;
 use range_defs::Claim;
+use std::alloc::Global;
+use std::marker::Model;
 
 /// The rule and fill of each byte: claims that are sorted, not empty and don't overlap; two that touch have different
 /// rules.
@@ -26,6 +29,35 @@ impl Model for FillMap {
 }
 
 impl FillMap {
+    /// The map in which each claimed byte has the least rule that claims it, with that rule's fill.
+    pub fn first_wins(alloc: Global, claims: Vec<Claim>) -> Result<FillMap, NoMemory>
+        requires reach { All (λ claim. EndsInReach claim.range) claims.items }
+        requires one_fill { HaveOneFill claims.items }
+        ensures bytes { IfOk result
+            (λ map. (byte : ℕ) → painted map byte ≡ painted claims.items byte) }
+        ensures kept { IfOk result IsFillMap }
+    {
+        let mut laid = Vec::new(alloc);
+        for claim in &claims {
+            laid = with_claim(alloc, &laid, *claim)?;
+        }
+        Ok(FillMap {
+            claims: joined(alloc, &laid)?,
+        })
+    }
+
+    /// The rule and the fill of a byte; None where no claim has it.
+    pub fn holds(&self, byte: u64) -> Option<(u32, u8)>
+        ensures { result ≡ painted self.now byte }
+    {
+        for claim in &self.claims {
+            if claim.range.at <= byte && byte - claim.range.at < claim.range.len {
+                return Some((claim.rule, claim.fill));
+            }
+        }
+        None
+    }
+
     /// The map with these claims.
     pub fn from_sorted(items: Vec<Claim>) -> Self
         requires { IsFillMap items.items }

@@ -2,6 +2,8 @@
 #![tactic(auto)]
 
 pub mod fills;
+pub mod laws;
+pub(crate) mod laying;
 pub mod pieces;
 pub mod plan;
 pub mod ranges;

@@ -1,10 +1,9 @@
 //! The plan: which bytes are filled with what, and which files are listed.
 ghost use Rattle.std.specs.Prelude.{◌≡◌};
 
-use std::marker::Model;
-
 use crate::fills::FillMap;
 use crate::text::Text;
+use std::marker::Model;
 
 /// Why a file is listed.
 #[derive(Clone, Copy, Debug, PartialEq, Eq)]

@@ -1,10 +1,12 @@
 //! Sets of bytes, as sorted lists of ranges.
-ghost use Rattle.std.specs.Prelude.{◌≡◌, All, IfOk};
-ghost use Rattle.range_defs.specs.Places.{covers, IsRangeList, EndsInReach};
+ghost use Rattle.std.specs.Prelude.{◌≡◌, ◌+◌, ◌<◌, ◌||◌, ◌&&◌, ℕ, All, IfOk};
+ghost use Rattle.rx_ranges.specs.Hull.{hull};
+ghost use Rattle.range_defs.specs.Places.{covers, in_range, IsLeast, IsRangeList, EndsInReach};
 
-use std::marker::Model;
-
+use crate::text::NoMemory;
 use range_defs::Range;
+use std::alloc::Global;
+use std::marker::Model;
 
 /// A set of bytes: ranges that are sorted, not empty and don't touch.
 #[derive(Debug, Drop)]
@@ -25,11 +27,95 @@ impl Model for RangeList {
 }
 
 impl RangeList {
+    /// The set of the bytes of these ranges. They may come in any order and overlap, and an empty one adds no byte.
+    pub fn from_ranges(alloc: Global, ranges: Vec<Range>) -> Result<RangeList, NoMemory>
+        requires { All EndsInReach ranges.items }
+        ensures bytes { IfOk result (λ list. (byte : ℕ) → covers list byte ≡ covers ranges.items byte) }
+        ensures kept { IfOk result IsRangeList }
+    {
+        let mut kept = Vec::new(alloc);
+        for range in &ranges {
+            if range.len > 0 {
+                kept = with_range(alloc, &kept, *range)?;
+            }
+        }
+        Ok(RangeList { ranges: kept })
+    }
+
+    /// The least byte that both sets have; None where they share none.
+    pub fn meets(&self, other: &RangeList) -> Option<u64>
+        ensures { IsLeast (λ byte. covers self.now byte && covers other.now byte) result }
+    {
+        let mut left = 0;
+        let mut right = 0;
+        while left < self.ranges.len() && right < other.ranges.len() {
+            let mine = self.ranges[left];
+            let theirs = other.ranges[right];
+            let at = mine.at.max(theirs.at);
+            if at - mine.at >= mine.len {
+                left += 1;
+            } else if at - theirs.at >= theirs.len {
+                right += 1;
+            } else {
+                return Some(at);
+            }
+        }
+        None
+    }
+
     /// The ranges that are kept: sorted, not empty, and no two touch.
     pub fn items(&self) -> &[Range]
         ensures items { result.now ≡ self.now }
         ensures kept { IsRangeList self.now }
     {
         self.ranges.as_slice()
+    }
+}
+
+/// The byte right behind a range.
+fn end(range: Range) -> u64
+    requires { EndsInReach range }
+    ensures { result ≡ range.at + range.len }
+{
+    range.at + range.len
+}
+
+/// The ranges of a set with one more range added: it joins those that it overlaps or touches.
+fn with_range(alloc: Global, ranges: &[Range], range: Range) -> Result<Vec<Range>, NoMemory>
+    requires some { 0 < range.len }
+    requires reach { EndsInReach range }
+    requires kept_before { IsRangeList ranges.now }
+    requires reach_before { All EndsInReach ranges.now }
+    ensures bytes { IfOk result
+        (λ out. (byte : ℕ) → covers out.items byte ≡ (covers ranges.now byte || in_range range byte)) }
+    ensures kept { IfOk result (λ out. IsRangeList out.items) }
+    ensures reach_after { IfOk result (λ out. All EndsInReach out.items) }
+{
+    let mut out = Vec::new(alloc);
+    let mut added = range;
+    for next in ranges {
+        if end(*next) < added.at {
+            out.push(*next)?;
+        } else if end(added) < next.at {
+            out.push(added)?;
+            added = *next;
+        } else {
+            added = joined(added, *next);
+        }
+    }
+    out.push(added)?;
+    Ok(out)
+}
+
+/// The range from where the first of two begins to where the last ends.
+fn joined(a: Range, b: Range) -> Range
+    requires reach_a { EndsInReach a }
+    requires reach_b { EndsInReach b }
+    ensures { result ≡ hull a b }
+{
+    let at = a.at.min(b.at);
+    Range {
+        at,
+        len: end(a).max(end(b)) - at,
     }
 }

@@ -1,0 +1,121 @@
+//! What a command answers.
+ghost use Rattle.std.specs.Prelude.{◌≡◌, ◌≤◌, OnOk, OnErr};
+ghost use Rattle.disk_defs.specs.Count.{Rose};
+ghost use Rattle.disk_defs.specs.Stream.{taken_with, TookPrefixOf};
+ghost use Rattle.redact_cmd.specs.Status.{code_of, status_line};
+
+use arrayvec::ArrayString;
+use rx_store::{Fault, Sink, write_all};
+
+/// What a command answers.
+#[derive(Clone, Copy, Debug, PartialEq, Eq)]
+pub enum Status {
+    /// It is done.
+    Done,
+    /// The words ask for no command.
+    Usage,
+    /// The image or the journal failed.
+    DeviceFault,
+    /// The rule text failed.
+    SourceFault,
+    /// The output failed.
+    SinkFault,
+    /// Memory ran out.
+    NoMemory,
+    /// The program can't do this yet.
+    NotBuilt,
+}
+
+impl Status {
+    /// The code with which the program ends.
+    pub fn code(&self) -> u8
+        ensures { result ≡ code_of self.now }
+    {
+        match self {
+            Status::Done => 0,
+            Status::Usage => 2,
+            Status::DeviceFault => 10,
+            Status::SourceFault => 11,
+            Status::SinkFault => 12,
+            Status::NoMemory => 14,
+            Status::NotBuilt => 15,
+        }
+    }
+}
+
+/// Writes the line that says a status. After a fault the sink took some first bytes of it.
+pub fn write_status<K: Sink>(status: &Status, sink: &mut K) -> Result<(), Fault>
+    ensures taken { OnOk result (K.taken sink.new ≡ taken_with (K.taken sink.old) (status_line status.now)) }
+    ensures prefix { OnErr result (TookPrefixOf (K.taken sink.old) (K.taken sink.new) (status_line status.now)) }
+    ensures counts { K.faults sink.old ≤ K.faults sink.new }
+    ensures cause { OnErr result (Rose (K.faults sink.old) (K.faults sink.new)) }
+{
+    write_all(sink, line_of(status).as_bytes())
+}
+
+/// Room for the longest line.
+const LINE: usize = 160;
+
+/// The line that says a status.
+#[tactic(auto, unfolding(crate::specs::Status::status_line, crate::specs::Status::program_line))]
+fn line_of(status: &Status) -> ArrayString<LINE>
+    ensures { result.bytes ≡ status_line status.now }
+{
+    let mut line = ArrayString::new();
+    let text = match status {
+        Status::Done => return line,
+        Status::Usage => {
+            "usage: inventory IMAGE, plan IMAGE RULES, redact IMAGE JOURNAL RULES, resume IMAGE JOURNAL, report JOURNAL, selftest KIND NUMBER FILES"
+        }
+        Status::DeviceFault => "image or journal failed",
+        Status::SourceFault => "rule text failed",
+        Status::SinkFault => "output failed",
+        Status::NoMemory => "out of memory",
+        Status::NotBuilt => "not built yet",
+    };
+    line.push_str("dfredact: ");
+    line.push_str(text);
+    line.push_str("\n");
+    line
+}
+
+#[cfg(test)]
+mod tests {
+    use super::*;
+    use rx_store::MemSink;
+    use std::test::Fail;
+
+    #[test]
+    fn each_status_has_its_code_and_its_line(rt: HostRuntime) -> Result<(), Fail> {
+        let usage =
+            "dfredact: usage: inventory IMAGE, plan IMAGE RULES, redact IMAGE JOURNAL RULES, resume IMAGE JOURNAL, report JOURNAL, selftest KIND NUMBER FILES\n";
+        let table = [
+            (Status::Done, 0, ""),
+            (Status::Usage, 2, usage),
+            (
+                Status::DeviceFault,
+                10,
+                "dfredact: image or journal failed\n",
+            ),
+            (Status::SourceFault, 11, "dfredact: rule text failed\n"),
+            (Status::SinkFault, 12, "dfredact: output failed\n"),
+            (Status::NoMemory, 14, "dfredact: out of memory\n"),
+            (Status::NotBuilt, 15, "dfredact: not built yet\n"),
+        ];
+        for (status, code, line) in table {
+            let mut sink = MemSink::new(rt.alloc(), 200)?;
+            assert_eq!(rt; status.code(), code);
+            assert_eq!(rt; write_status(&status, &mut sink), Ok(()), "{status:?}");
+            assert_eq!(rt; sink.bytes(), line.as_bytes(), "{status:?}");
+        }
+        Ok(())
+    }
+
+    #[test]
+    fn a_line_that_finds_no_room_is_a_fault(rt: HostRuntime) -> Result<(), Fail> {
+        let mut sink = MemSink::new(rt.alloc(), 12)?;
+        assert_eq!(rt; write_status(&Status::NotBuilt, &mut sink), Err(Fault));
+        assert_eq!(rt; sink.bytes(), b"dfredact: no".as_slice());
+        Ok(())
+    }
+}

@@ -1,0 +1,51 @@
+-- A store over files: what contracts see of it.
+use Rattle.std.specs.Prelude.{◌≡◌, ℕ, Bool, true, false, None, IsTrue}
+use Rattle.disk_defs.specs.Disk.{State, TellsItsSizes}
+use Rattle.disk_defs.specs.declared.Area.{Area}
+use Rattle.disk_defs.specs.declared.Area.TheVariants.{Image, Journal}
+use Rattle.rx_store.specs.declared.file_store.Opened.{Opened}
+use Rattle.rx_store.specs.declared.file_store.Opened.TheVariants.{Absent, Failed, Open}
+
+-- the file of an area: the size that was found, whether there is no file, and whether it couldn't be opened or measured
+pub record AreaFile : Type 0 where
+  pub size : ℕ
+  pub is_absent : Bool
+  pub has_failed : Bool
+
+-- the files of both areas, and how many calls failed
+pub record StoreOfFiles : Type 0 where
+  pub image : AreaFile
+  pub journal : AreaFile
+  pub faults : ℕ
+
+abbrev pub is_absent : Opened → Bool
+is_absent Absent = true
+is_absent Failed = false
+is_absent (Open file) = false
+
+abbrev pub has_failed : Opened → Bool
+has_failed Absent = false
+has_failed Failed = true
+has_failed (Open file) = false
+
+-- what is seen of a file with the size that was found
+abbrev pub area_file : Opened → ℕ → AreaFile
+area_file opened size = record { size = size; is_absent = is_absent opened; has_failed = has_failed opened }
+
+-- what is found of a file when it is measured: an open one may fail then
+abbrev pub IsMeasured : Opened → AreaFile → Type 0
+IsMeasured Absent file = file ≡ area_file Absent 0
+IsMeasured Failed file = file ≡ area_file Failed 0
+IsMeasured (Open opened) file = (file.is_absent ≡ false) × (IsTrue file.has_failed → file.size ≡ 0)
+
+abbrev pub file_of : Area → StoreOfFiles → AreaFile
+file_of Image store = store.image
+file_of Journal store = store.journal
+
+-- a store over files tells its sizes and no content
+abbrev pub state_of_files : StoreOfFiles → State
+state_of_files store = record { sizes = record { image = store.image.size; journal = store.journal.size }; told = None }
+
+pub tells_its_sizes_of_files : (store : StoreOfFiles) → TellsItsSizes (state_of_files store)
+tells_its_sizes_of_files store Image = tt
+tells_its_sizes_of_files store Journal = tt
