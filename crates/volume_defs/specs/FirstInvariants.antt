@@ -1,22 +1,19 @@
 -- A tree of an image of the first form is a tree: its files stand in order and are covered, its names are sorted, and
 -- all of it lies in the image.
-use Rattle.std.specs.Prelude.{◌≡◌, ℕ, ◌+◌, ◌≤◌, Bool, true, false, nat_le, Result, Ok, Err, List, [], ◌∷◌, refl, IsSorted, length}
+use Rattle.std.specs.Prelude.{◌≡◌, ℕ, ◌+◌, ◌≤◌, true, nat_le, Result, Ok, List, [], ◌∷◌, refl, IsSorted, length}
 use Rattle.std.specs.List.{All}
 use Rattle.std.specs.Cmp.Lexicographic.{slice_cmp}
 use Rattle.std.specs.Ordering.{nat_cmp}
 use Rattle.std.proofs.Common.{ap, sym, ◌∙◌, subst, arith}
 use Rattle.std.proofs.lemmas.Bool.{leb-true}
 use Rattle.std.proofs.lemmas.List.Elements.{All-cons, All-nil}
-use Rattle.range_defs.specs.declared.Range.{Range}
 use Rattle.range_defs.specs.Places.{covers}
 use Rattle.image_defs.specs.Bytes.{part}
-use Rattle.image_defs.specs.Ask.{Ask, Done, run, visits, each}
+use Rattle.image_defs.specs.Ask.{Done, run, visits, each}
 use Rattle.image_defs.specs.Guard.{longest-ends}
 use Rattle.image_defs.specs.Looks.{bind_gives, check_gives, each_gives_one}
-use Rattle.rx_tree.specs.FoundPart.{FoundPart}
-use Rattle.rx_tree.specs.FoundTree.{FoundTree}
-use Rattle.rx_tree.specs.Order.{HaveRisingIds, HaveRisingNumbers}
-use Rattle.rx_tree.specs.Within.{IsWithin, AreFilesWithin, AreRangesWithin, AreVolumesWithin}
+use Rattle.rx_tree.specs.Order.{HaveRisingIds}
+use Rattle.rx_tree.specs.Within.{IsWithin, AreFilesWithin}
 use Rattle.rx_tree.specs.declared.file.FileEntry.{FileEntry}
 use Rattle.rx_tree.specs.Path.{joined_path}
 use Rattle.ufs_defs.specs.Superblock.{superblock_of}
@@ -45,7 +42,7 @@ pub record IsOfFirstForm (size : ℕ) (files : List FileEntry) : Type 0 where
 same_value : {X : Type 0} (a b : X) → (let first : Result X FirstFault = Ok a in let second : Result X FirstFault = Ok b in first ≡ second) → a ≡ b
 same_value a b same = cc
 
-superblock_gives : (image : List ℕ) (superblock : Superblock) → run image first_superblock ≡ Ok superblock → is_first_superblock superblock ≡ true
+pub superblock_gives : (image : List ℕ) (superblock : Superblock) → run image first_superblock ≡ Ok superblock → is_first_superblock superblock ≡ true
 unfolding first_superblock
 superblock_gives image superblock gives =
     let found : Superblock = superblock_of (part image 65536 1376) in
@@ -53,7 +50,7 @@ superblock_gives image superblock gives =
     let P : Superblock → Type 0 = λ value. is_first_superblock value ≡ true in
     subst P (same_value found superblock tested.1) tested.0
 
-root_gives : (image : List ℕ) (size : ℕ) (superblock : Superblock) (root : Inode) → run image (first_root size superblock) ≡ Ok root → is_first_root size superblock root ≡ true
+pub root_gives : (image : List ℕ) (size : ℕ) (superblock : Superblock) (root : Inode) → run image (first_root size superblock) ≡ Ok root → is_first_root size superblock root ≡ true
 unfolding first_root
 root_gives image size superblock root gives =
     let found = bind_gives image (first_inode size superblock 2) _ root gives in
@@ -136,10 +133,10 @@ first_tree_within image files gives =
       volumes = All-cons (λ volume. volume.at + volume.len ≤ length image) (whole_volume (length image)) [] (omega arith) (All-nil (λ volume. volume.at + volume.len ≤ length image));
       unread = All-nil (λ range. range.at + range.len ≤ length image);
       files =
-        subst Within (sym found.whole)
-        (first_files_within (length image) found.superblock found.root found.named found.good_superblock
-        (root_small (length image) found.superblock found.root found.good_root)
-        (file_small (length image) found.superblock found.named.inode found.small_file));
+          subst Within (sym found.whole)
+          (first_files_within (length image) found.superblock found.root found.named found.good_superblock
+          (root_small (length image) found.superblock found.root found.good_root)
+          (file_small (length image) found.superblock found.named.inode found.small_file));
       guard = longest-ends (covers (visits image (first_files (length image)))) 0 (length image) (length image) (omega arith);
     }
 

@@ -1,28 +1,26 @@
 -- What the tests of the first form make sure of: the files stand in order, their parts are covered, and all of it lies
 -- in the image.
-use Rattle.std.specs.Prelude.{◌≡◌, ℕ, ◌+◌, ◌*◌, ◌<◌, ◌≤◌, ◌%◌, Bool, true, false, not, ◌&&◌, ◌||◌, ◌==◌, nat_le, nat_lt, IsTrue, is_none, Option, Some, None, Result, Ok, Err, List, [], ◌∷◌, refl, IsSorted, length, slice_index_or}
-use Rattle.std.specs.List.{All}
+use Rattle.std.specs.Prelude.{◌≡◌, ℕ, ◌+◌, ◌*◌, ◌<◌, ◌≤◌, ◌%◌, Bool, true, false, ◌&&◌, ◌||◌, ◌==◌, nat_le, nat_lt, is_none, Option, Some, None, List, [], ◌∷◌, refl, IsSorted}
 use Rattle.std.specs.Cmp.Lexicographic.{slice_cmp}
 use Rattle.std.specs.Ordering.{nat_cmp}
 use Rattle.std.proofs.Common.{ap, sym, ◌∙◌, subst, arith, ⊎_elim, ◌⊎◌, inl, inr}
-use Rattle.std.proofs.lemmas.Bool.{leb-true, ltb-true}
-use Rattle.std.proofs.lemmas.Bool.Decides.{Decides-eqb, nat_tests}
+use Rattle.std.proofs.lemmas.Bool.{leb-true}
+use Rattle.std.proofs.lemmas.Bool.Decides.{Decides-eqb}
 use Rattle.std.proofs.lemmas.List.Elements.{All-cons, All-nil}
 use Rattle.range_defs.specs.declared.Range.{Range}
 use Rattle.rx_tree.specs.Covering.{ArePiecesOf}
 use Rattle.rx_tree.specs.FoundPart.{FoundPart}
 use Rattle.rx_tree.specs.Order.{HaveRisingIds}
 use Rattle.rx_tree.specs.Within.{ArePiecesWithin, AreRangesWithin, ArePartsWithin, AreFilesWithin}
-use Rattle.rx_tree.specs.declared.file.FileEntry.{FileEntry}
 use Rattle.ufs_defs.specs.Signed.{counted}
 use Rattle.ufs_defs.specs.Superblock.{wrong_field}
-use Rattle.ufs_defs.specs.Inode.{is_directory}
+use Rattle.ufs_defs.specs.Inode.{is_directory, inode_place}
 use Rattle.ufs_defs.specs.SoundSuperblock.{IsSound, is_sound}
-use Rattle.ufs_defs.specs.Blocks.{rounded_up, first_block, one_block_pieces, one_block_slack, one_block_content}
+use Rattle.ufs_defs.specs.Blocks.{first_block, one_block_pieces, one_block_slack, one_block_content}
 use Rattle.ufs_defs.specs.BlockLaws.{one_block_pieces_cover, one_block_pieces_within, one_block_slack_within, one_block_slack_empty, rounded_up_one}
 use Rattle.ufs_defs.specs.declared.superblock.Superblock.{Superblock}
 use Rattle.ufs_defs.specs.declared.inode.Inode.{Inode}
-use Rattle.volume_defs.specs.FirstForm.{NamedInode, is_first_superblock, has_first_block, is_plain, is_first_root, is_first_entry, is_first_file, is_small_file, root_file, named_file, files_of}
+use Rattle.volume_defs.specs.FirstForm.{NamedInode, is_first_superblock, is_first_inode, has_first_block, is_plain, is_first_root, is_first_entry, is_small_file, root_file, named_file, files_of}
 
 pub both_hold : (first second : Bool) → (first && second) ≡ true → (first ≡ true) × (second ≡ true)
 both_hold true second both = (refl, both)
@@ -77,10 +75,10 @@ file_small size superblock inode good =
     record {
       fits = leb-true inode.size (counted superblock.bsize) both.0;
       inside =
-        ⊎_elim
-        (λ empty. inl ((Decides-eqb inode.size 0).0 empty))
-        (λ there. inr (first_block_within size superblock inode there))
-        (one_holds (inode.size == 0) (has_first_block size superblock inode) both.1);
+          ⊎_elim
+          (λ empty. inl ((Decides-eqb inode.size 0).0 empty))
+          (λ there. inr (first_block_within size superblock inode there))
+          (one_holds (inode.size == 0) (has_first_block size superblock inode) both.1);
     }
 
 -- the content of such an inode lies in the image
@@ -104,8 +102,8 @@ small_slack_within size superblock inode good small =
     ⊎_elim
     (λ empty. subst P (sym empty) (subst Q (sym (one_block_slack_empty (counted superblock.fsize) (first_block superblock inode) some)) (All-nil (λ range. range.at + range.len ≤ size))))
     (λ there.
-        let one = rounded_up_one (counted superblock.fsize) inode.size some (omega (arith, small.fits, block)) in
-        one_block_slack_within size (counted superblock.fsize) inode.size (first_block superblock inode) some (omega (arith, there, one, block)))
+    let one = rounded_up_one (counted superblock.fsize) inode.size some (omega (arith, small.fits, block)) in
+    one_block_slack_within size (counted superblock.fsize) inode.size (first_block superblock inode) some (omega (arith, there, one, block)))
     small.inside
 
 pub small_content_within : (size : ℕ) (superblock : Superblock) (inode : Inode) → is_first_superblock superblock ≡ true → IsSmall size superblock inode
@@ -142,3 +140,16 @@ first_files_within size superblock root named good root_fits file_fits =
     (All-cons (λ file. ArePartsWithin size file.parts) (named_file superblock named) []
     (small_content_within size superblock named.inode good file_fits)
     (All-nil (λ file. ArePartsWithin size file.parts)))
+
+-- the root's content lies in the image
+pub root_content_within : (size : ℕ) (superblock : Superblock) (root : Inode) → is_first_root size superblock root ≡ true → first_block superblock root + root.size ≤ size
+unfolding is_first_root
+root_content_within size superblock root good =
+    let sizes_and_block = (both_hold (is_plain root) _ (both_hold (is_directory root) _ good).1).1 in
+    let parts = both_hold (root.size % 512 == 0 && (nat_le 512 root.size && nat_le root.size (counted superblock.bsize))) (has_first_block size superblock root) sizes_and_block in
+    omega (arith, (root_small size superblock root good).fits, first_block_within size superblock root parts.1)
+
+-- an inode lies in the image
+pub first_inode_within : (size : ℕ) (superblock : Superblock) (number : ℕ) → is_first_inode size superblock number ≡ true → inode_place superblock number + 256 ≤ size
+unfolding is_first_inode
+first_inode_within size superblock number good = leb-true (inode_place superblock number + 256) size (both_hold (nat_lt number (superblock.ncg * superblock.ipg)) _ good).1

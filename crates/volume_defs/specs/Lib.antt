@@ -7,3 +7,5 @@ pub mod FirstFootprint
 pub mod FirstReader
 pub mod FirstKept
 pub mod FirstInvariants
+pub mod FirstLooks
+pub mod FirstTreeLaw
