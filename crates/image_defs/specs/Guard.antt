@@ -9,9 +9,9 @@ use Rattle.std.proofs.lemmas.List.Elements.{All-head, All-tail, All-cons, All-ni
 use Rattle.std.proofs.lemmas.Option.{slice_get_past}
 use Rattle.range_defs.specs.declared.Range.{Range}
 use Rattle.range_defs.specs.Places.{in_range, covers, IsRangeList, in_front, longest_ranges}
-use Rattle.range_defs.specs.RangeLaws.{EndsBy, covers-inside, same_as_longest_ranges}
+use Rattle.range_defs.specs.RangeLaws.{EndsBy, in_range-behind, ends_where_covered, same_as_longest_ranges}
 use Rattle.image_defs.specs.Ask.{Ask, run, visits}
-use Rattle.image_defs.specs.Agreement.{AgreeOn, run_agree, visits_agree, covers_behind}
+use Rattle.image_defs.specs.Agreement.{AgreeOn, run_agree, visits_agree}
 use Rattle.image_defs.specs.Looks.{LooksAt}
 
 -- the bytes of an image that a program looks at, as the longest ranges
@@ -135,26 +135,12 @@ looked_at_guarded a b ask agree =
     ap (λ ranges. longest_ranges (covers ranges) 0 (length b)) (visits_agree ask a b (looked_at-agree a b ask agree))
     ∙ ap (λ len. longest_ranges (covers (visits a ask)) 0 len) (sym agree.same_length)
 
--- a byte of ranges that end by a byte is in front of it
-pub covered-ends : (end byte : ℕ) (ranges : List Range) → All (EndsBy end) ranges → covers ranges byte ≡ true → byte < end
-covered-ends end byte [] ends covered = absurd cc
-covered-ends end byte (range ∷ ranges) ends covered =
-    first_or_behind (in_range range byte) covered
-    (λ first. grind (arith, nat_tests, All-head (EndsBy end) range ranges ends))
-    (λ behind. covered-ends end byte ranges (All-tail (EndsBy end) range ranges ends) behind)
-  where
-    first_or_behind : (first : Bool) → (first || covers ranges byte) ≡ true → (first ≡ true → byte < end) → (covers ranges byte ≡ true → byte < end) → byte < end
-    first_or_behind true covered first behind = first refl
-    first_or_behind false covered first behind = behind covered
-
--- a canonical list whose bytes are all in front of a byte ends by it
-pub list-ends : (end : ℕ) (ranges : List Range) → IsRangeList ranges → ((byte : ℕ) → covers ranges byte ≡ true → byte < end) → All (EndsBy end) ranges
-list-ends end [] kept inside = All-nil (EndsBy end)
-list-ends end (range ∷ ranges) kept inside =
-    let last : range.at + range.len - 1 < end =
-    inside (range.at + range.len - 1) (covers-inside range ranges (range.at + range.len - 1) (omega (arith, kept.0)) (omega (arith, kept.0))) in
-    All-cons (EndsBy end) range ranges (omega (arith, last))
-    (list-ends end ranges kept.2 (λ byte covered. inside byte (covers_behind range ranges byte covered)))
+-- ranges that end by a byte cover none from there on
+pub covers-past : (end byte : ℕ) (ranges : List Range) → All (EndsBy end) ranges → end ≤ byte → covers ranges byte ≡ false
+covers-past end byte [] ends past = refl
+covers-past end byte (range ∷ ranges) ends past =
+    rw (in_range-behind range byte (omega (arith, past, All-head (EndsBy end) range ranges ends)))
+    (covers-past end byte ranges (All-tail (EndsBy end) range ranges ends) past)
 
 -- where a program looks only inside the image, the canonical list of its ranges is the list of the bytes that it looks at
 pub list-looked_at : {E X : Type 0} (image : List ℕ) (ask : Ask E X) (ranges : List Range) → IsRangeList ranges
@@ -162,4 +148,4 @@ pub list-looked_at : {E X : Type 0} (image : List ℕ) (ask : Ask E X) (ranges :
 unfolding looked_at
 list-looked_at image ask ranges kept same looks =
     same_as_longest_ranges (covers (visits image ask)) (length image) ranges kept same
-    (list-ends (length image) ranges kept (λ byte covered. covered-ends (length image) byte (visits image ask) looks (sym (same byte) ∙ covered)))
+    (ends_where_covered ranges (length image) kept (λ byte past. same byte ∙ covers-past (length image) byte (visits image ask) looks past))
