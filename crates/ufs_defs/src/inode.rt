@@ -2,10 +2,9 @@
 ghost use Rattle.std.specs.Prelude.{◌≡◌, ◌<◌, ◌≤◌, ◌^◌, length};
 ghost use Rattle.ufs_defs.specs.Inode.{inode_of, inode_fragment as inode_fragment_by, inode_place as inode_place_by, is_directory as is_directory_by, is_file as is_file_by, is_snapshot as is_snapshot_by};
 
-use image_defs::little::{i64_at, u16_at, u32_at, u64_at};
-
 use crate::signed::counted;
 use crate::superblock::Superblock;
+use image_defs::little::{i64_at, u16_at, u32_at, u64_at};
 
 /// The fields of an inode that are read.
 #[derive(Clone, Copy, Debug, PartialEq, Eq)]
