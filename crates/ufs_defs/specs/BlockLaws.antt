@@ -55,3 +55,18 @@ rounded_up_one fragment size some fits =
         (λ one. let once : count * unit ≤ 1 * unit = mul-le-mul_right unit (omega (arith, one)) in omega (arith, once))
         (λ more. let twice : 2 * unit ≤ count * unit = mul-le-mul_right unit (omega (arith, more)) in omega (arith, twice))
         (cases_lt count 2)
+
+-- an empty file takes up no fragment, and has no slack
+rounded_up_empty : (fragment : ℕ) → 0 < fragment → rounded_up fragment 0 ≡ 0
+rounded_up_empty fragment some =
+    none (0 / fragment + min 1 (0 % fragment)) fragment (omega (arith, (div_ceil_times 0 fragment some).1))
+  where
+    none : (count unit : ℕ) → count * unit < unit → count * unit ≡ 0
+    none count unit less =
+        ⊎_elim
+        (λ zero. let once : count * unit ≤ 0 * unit = mul-le-mul_right unit (omega (arith, zero)) in omega (arith, once))
+        (λ more. let once : 1 * unit ≤ count * unit = mul-le-mul_right unit (omega (arith, more)) in absurd (omega (arith, once)))
+        (cases_lt count 1)
+
+pub one_block_slack_empty : (fragment at : ℕ) → 0 < fragment → one_block_slack fragment 0 at ≡ []
+one_block_slack_empty fragment at some = rw (rounded_up_empty fragment some) refl

@@ -2,4 +2,5 @@
 #![tactic(auto)]
 
 pub mod inode;
+pub mod signed;
 pub mod superblock;

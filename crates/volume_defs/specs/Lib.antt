@@ -5,3 +5,7 @@ pub mod RowsT
 pub mod FirstTree
 pub mod FirstFootprint
 pub mod FirstReader
+pub mod FirstKept
+pub mod FirstInvariants
+pub mod FirstLooks
+pub mod FirstTreeLaw
