@@ -2,6 +2,7 @@
 #![tactic(auto)]
 
 mod report;
+mod rules;
 pub mod status;
 pub mod words;
 
