@@ -6,3 +6,5 @@ pub mod directory;
 pub mod inode;
 pub mod signed;
 pub mod superblock;
+#[cfg(test)]
+mod tests;
