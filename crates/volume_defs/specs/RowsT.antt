@@ -18,7 +18,7 @@ use Rattle.volume_defs.specs.Kind.{kind_of}
 use Rattle.volume_defs.specs.FirstForm.{FirstFault, NotFirstForm, first_files, files_below, first_file, first_entries, first_root, first_inode, first_superblock, is_first_superblock, is_first_inode, has_first_block, is_first_root, is_first_entry, is_first_file, is_small_file}
 use Rattle.volume_defs.specs.ImageT.{image_t}
 
-length_t : length image_t ≡ 262144
+pub length_t : length image_t ≡ 262144
 unfolding image_t
 length_t = refl
 
