@@ -1,12 +1,13 @@
 -- What holds of the pieces and the slack of a file of at most one block.
-use Rattle.std.specs.Prelude.{◌≡◌, ℕ, ◌+◌, ◌-◌, ◌*◌, ◌/◌, ◌%◌, ◌<◌, ◌≤◌, min, Bool, true, false, ◌==◌, if◌then◌else◌, [], ◌∷◌, refl}
+use Rattle.std.specs.Prelude.{◌≡◌, ℕ, ◌+◌, ◌-◌, ◌*◌, ◌/◌, ◌%◌, ◌<◌, ◌≤◌, min, Bool, true, false, ◌==◌, if◌then◌else◌, List, [], ◌∷◌, refl}
 use Rattle.std.proofs.Common.{arith, ⊎_elim}
 use Rattle.std.proofs.Math.Nat.{mul-le-mul_right}
 use Rattle.std.proofs.lemmas.Bool.{cases_lt}
 use Rattle.std.proofs.lemmas.Bool.Decides.{nat_tests}
 use Rattle.std.proofs.lemmas.Grind.{div_ceil_times}
 use Rattle.std.proofs.lemmas.List.Elements.{All-cons, All-nil}
-use Rattle.range_defs.specs.Places.{IsRangeList}
+use Rattle.range_defs.specs.Places.{IsRangeList, covers}
+use Rattle.range_defs.specs.RangeLaws.{same_range_list}
 use Rattle.rx_ranges.specs.declared.pieces.PieceKind.TheVariants.{Disk}
 use Rattle.rx_tree.specs.Covering.{ArePiecesOf}
 use Rattle.rx_tree.specs.Within.{ArePiecesWithin, AreRangesWithin}
@@ -70,3 +71,8 @@ rounded_up_empty fragment some =
 
 pub one_block_slack_empty : (fragment at : ℕ) → 0 < fragment → one_block_slack fragment 0 at ≡ []
 one_block_slack_empty fragment at some = rw (rounded_up_empty fragment some) refl
+
+-- a canonical list with the bytes of the slack is the slack
+pub list_is_slack : (fragment size at : ℕ) (list : List Range) → 0 < fragment → IsRangeList list
+    → ((byte : ℕ) → covers list byte ≡ covers (one_block_slack fragment size at) byte) → list ≡ one_block_slack fragment size at
+list_is_slack fragment size at list some kept same = same_range_list list (one_block_slack fragment size at) kept (one_block_slack_kept fragment size at some) same

@@ -88,7 +88,8 @@ fn inode_fragment(superblock: &Superblock, number: u32) -> u128
 pub fn inode_place(superblock: &Superblock, number: u32) -> u128
     requires group { 1 ≤ superblock.now.ipg }
     requires block { 1 ≤ superblock.now.inopb }
-    ensures { result ≡ inode_place_by superblock.now number }
+    ensures value { result ≡ inode_place_by superblock.now number }
+    ensures bounded { result < 2 ^ 100 }
 {
     let fragment = inode_fragment(superblock, number);
     fragment * u128::from(counted(superblock.fsize)) + 256 * u128::from(number % superblock.inopb)

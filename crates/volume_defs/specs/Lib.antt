@@ -9,3 +9,4 @@ pub mod FirstKept
 pub mod FirstInvariants
 pub mod FirstLooks
 pub mod FirstTreeLaw
+pub mod GuardT
