@@ -28,6 +28,11 @@ abbrev pub ◌>>=◌ : {E X Y : Type 0} → Ask E X → (X → Ask E Y) → Ask 
 (Stop e) >>= next = Stop e
 (Look at len more) >>= next = Look at len (λ bytes. more bytes >>= next)
 
+-- the same where the first program's value doesn't matter
+infixl 10 ◌>>◌
+abbrev pub ◌>>◌ : {E X Y : Type 0} → Ask E X → Ask E Y → Ask E Y
+first >> next = first >>= (λ x. next)
+
 -- the bytes of a range
 abbrev pub look : {E : Type 0} → ℕ → ℕ → Ask E (List ℕ)
 look at len = Look at len (λ bytes. Done bytes)

@@ -1,12 +1,12 @@
 -- What holds of the ranges that a program looks at, and what a value says of the programs that gave it.
-use Rattle.std.specs.Prelude.{◌≡◌, ℕ, Bool, true, false, Result, Ok, Err, List, refl}
+use Rattle.std.specs.Prelude.{◌≡◌, ℕ, Bool, true, false, Result, Ok, Err, List, [], ◌∷◌, refl}
 use Rattle.std.specs.List.{All}
-use Rattle.std.proofs.Common.{sym, ◌∙◌}
+use Rattle.std.proofs.Common.{ap, sym, ◌∙◌, subst}
 use Rattle.std.proofs.lemmas.List.Elements.{All-head, All-tail, All-cons, All-nil}
 use Rattle.range_defs.specs.declared.Range.{Range}
 use Rattle.image_defs.specs.Bytes.{part}
-use Rattle.image_defs.specs.Ask.{Ask, Done, Stop, Look, run, visits, ◌>>=◌, check}
-use Rattle.image_defs.specs.Runs.{run_bind, run_next}
+use Rattle.image_defs.specs.Ask.{Ask, Done, Stop, Look, run, visits, ◌>>=◌, check, given, each}
+use Rattle.image_defs.specs.Runs.{run_bind, run_next, in_front_of, each_result, run_each}
 
 -- each range that a program looks at has a property
 abbrev pub LooksAt : {E X : Type 0} → (Range → Type 0) → List ℕ → Ask E X → Type 0
@@ -47,3 +47,38 @@ pub check_gives : {E Y : Type 0} (image : List ℕ) (test : Bool) (fault : E) (n
     → (test ≡ true) × (run image (next tt) ≡ Ok y)
 check_gives image true fault next y gives = (refl, gives)
 check_gives image false fault next y gives = absurd cc
+
+-- a value behind a given value
+pub given_gives : {E X Y : Type 0} (image : List ℕ) (result : Result X E) (next : X → Ask E Y) (y : Y) → run image (given result >>= next) ≡ Ok y
+    → (x : X) × (result ≡ Ok x) × (run image (next x) ≡ Ok y)
+given_gives image (Ok x) next y gives = (x, refl, gives)
+given_gives image (Err e) next y gives = absurd cc
+
+front_gives : {E Y : Type 0} (first : Result Y E) (rest : Result (List Y) E) (values : List Y) → in_front_of first rest ≡ Ok values
+    → (y : Y) × (ys : List Y) × (first ≡ Ok y) × (rest ≡ Ok ys) × (values ≡ y ∷ ys)
+front_gives (Ok y) (Ok ys) values gives = (y, ys, refl, refl, cc)
+front_gives (Ok y) (Err e) values gives = absurd cc
+front_gives (Err e) rest values gives = absurd cc
+
+results_hold : {E X Y : Type 0} (P : Y → Type 0) (give : X → Result Y E) (xs : List X) (ys : List Y)
+    → ((x : X) (y : Y) → give x ≡ Ok y → P y) → each_result give xs ≡ Ok ys → All P ys
+results_hold {Y = Y} P give [] ys holds gives =
+    let none : [] ≡ ys = cc in
+    let Q : List Y → Type 0 = λ values. All P values in
+    subst Q none (All-nil P)
+results_hold {Y = Y} P give (x ∷ xs) ys holds gives =
+    let found = front_gives (give x) (each_result give xs) ys gives in
+    let Q : List Y → Type 0 = λ values. All P values in
+    subst Q (sym found.4) (All-cons P found.0 found.1 (holds x found.0 found.2) (results_hold P give xs found.1 holds found.3))
+
+-- each value of the programs for some items comes from one of them
+pub each_gives : {E X Y : Type 0} (P : Y → Type 0) (image : List ℕ) (ask : X → Ask E Y) (xs : List X) (ys : List Y)
+    → ((x : X) (y : Y) → run image (ask x) ≡ Ok y → P y) → run image (each ask xs) ≡ Ok ys → All P ys
+each_gives P image ask xs ys holds gives = results_hold P (λ x. run image (ask x)) xs ys holds (sym (run_each image ask xs) ∙ gives)
+
+-- the value for one item
+pub each_gives_one : {E X Y : Type 0} (image : List ℕ) (ask : X → Ask E Y) (x : X) (values : List Y) → run image (each ask (x ∷ [])) ≡ Ok values
+    → (y : Y) × (run image (ask x) ≡ Ok y) × (values ≡ y ∷ [])
+each_gives_one image ask x values gives =
+    let found = front_gives (run image (ask x)) (Ok []) values (sym (run_each image ask (x ∷ [])) ∙ gives) in
+    (found.0, found.2, found.4 ∙ ap (λ ys. found.0 ∷ ys) cc)

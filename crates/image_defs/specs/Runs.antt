@@ -35,6 +35,16 @@ visits_bind image (Done x) next = refl
 visits_bind image (Stop e) next = refl
 visits_bind image (Look at len more) next = ap (λ ranges. record { at = at; len = len } ∷ ranges) (visits_bind image (more (part image at len)) next)
 
+-- where the second program looks at nothing, both look at what the first does
+pub visits_bind_quiet : {E X Y : Type 0} (image : List ℕ) (ask : Ask E X) (next : X → Ask E Y) → ((x : X) → visits image (next x) ≡ []) → visits image (ask >>= next) ≡ visits image ask
+visits_bind_quiet image (Done x) next quiet = quiet x
+visits_bind_quiet image (Stop e) next quiet = refl
+visits_bind_quiet image (Look at len more) next quiet = ap (λ ranges. record { at = at; len = len } ∷ ranges) (visits_bind_quiet image (more (part image at len)) next quiet)
+
+-- where the first program gives a value, both look at what the first does, and then at what the second does for it
+pub visits_bind_ok : {E X Y : Type 0} (image : List ℕ) (ask : Ask E X) (next : X → Ask E Y) (x : X) → run image ask ≡ Ok x → visits image (ask >>= next) ≡ visits image ask ++ visits image (next x)
+visits_bind_ok image ask next x is = visits_bind image ask next ∙ ap (λ r. visits image ask ++ visits_next image r next) is
+
 -- a look gives the bytes of its range
 pub run_look : {E : Type 0} (image : List ℕ) (at len : ℕ) → run image (look {E = E} at len) ≡ Ok (part image at len)
 run_look image at len = refl
@@ -63,6 +73,15 @@ run_check_true image test fault next is = ap (λ t. run image (check t fault >>=
 
 pub run_check_false : {E Y : Type 0} (image : List ℕ) (test : Bool) (fault : E) (next : Unit {0} → Ask E Y) → test ≡ false → run image (check test fault >>= next) ≡ Err fault
 run_check_false image test fault next is = ap (λ t. run image (check t fault >>= next)) is
+
+-- a check in front of a program that looks at nothing
+pub visits_check_quiet : {E Y : Type 0} (image : List ℕ) (test : Bool) (fault : E) (next : Unit {0} → Ask E Y) → visits image (next tt) ≡ [] → visits image (check test fault >>= next) ≡ []
+visits_check_quiet image true fault next quiet = quiet
+visits_check_quiet image false fault next quiet = refl
+
+-- behind a check that holds
+pub visits_check_true : {E Y : Type 0} (image : List ℕ) (test : Bool) (fault : E) (next : Unit {0} → Ask E Y) → test ≡ true → visits image (check test fault >>= next) ≡ visits image (next tt)
+visits_check_true image test fault next is = ap (λ t. visits image (check t fault >>= next)) is
 
 -- a given value is the result
 pub run_given : {E X : Type 0} (image : List ℕ) (result : Result X E) → run image (given result) ≡ result

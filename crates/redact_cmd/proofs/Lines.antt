@@ -91,3 +91,5 @@ command_of-many f (x ∷ y ∷ []) count = absurd (omega arith)
 command_of-many f (x ∷ y ∷ z ∷ []) count = absurd (omega arith)
 command_of-many f (x ∷ y ∷ z ∷ w ∷ []) count = absurd (omega arith)
 command_of-many f (x ∷ y ∷ z ∷ w ∷ v ∷ rest) count = refl
+
+pub ruleset lines = (command_of-few, command_of-many)

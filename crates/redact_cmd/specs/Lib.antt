@@ -1,2 +1,4 @@
 pub mod Words
+pub mod FirstLine
+pub mod Refusals
 pub mod Status

@@ -1,5 +1,6 @@
 -- The commands that words ask for.
 use Rattle.std.specs.Prelude.{ℕ, Bool, false, ◌&&◌, ◌==◌, nat_le, if◌then◌else◌, Option, Some, None, option_and_then, codes, List, [], ◌∷◌}
+use Rattle.std.specs.Bool.{then_some}
 use Rattle.std.specs.Char.{is_ascii_digit}
 use Rattle.std.specs.List.{list_all}
 use Rattle.std.specs.Str.{bytes_eq}
@@ -9,9 +10,10 @@ use Rattle.rx_tree.specs.declared.volume.FsKind.TheVariants.{Ntfs, Ufs1, Ufs2, H
 use Rattle.redact_cmd.specs.declared.words.Command.{Command}
 use Rattle.redact_cmd.specs.declared.words.Command.TheVariants.{Inventory, Plan, Redact, Resume, Report, Selftest}
 
--- what is there where a test passes
-abbrev pub some_where : {T : Type 0} → Bool → T → Option T
-some_where test value = if test then Some value else None
+infixl 10 ◌>>=◌
+-- what the second gives for the first, where both are there
+abbrev pub ◌>>=◌ : {A B : Type 0} → Option A → (A → Option B) → Option B
+first >>= second = option_and_then second first
 
 -- the kind of file system that a word names
 unfoldable pub kind_of : List ℕ → Option FsKind
@@ -31,12 +33,15 @@ is_numeral (first ∷ second ∷ rest) = if first == 48 then false else list_all
 unfoldable pub number_of : ℕ → ℕ → List ℕ → Option ℕ
 number_of least most word =
     let number = digits_value 10 word in
-    some_where (is_numeral word && nat_le least number && nat_le number most) number
+    then_some (is_numeral word && nat_le least number && nat_le number most) number
 
 -- the command `selftest` with these operands
 unfoldable pub selftest_of : List ℕ → List ℕ → List ℕ → Option Command
-selftest_of kind number files =
-    option_and_then (λ k. option_and_then (λ n. option_and_then (λ f. Some (Selftest k n f)) (number_of 1 200 files)) (number_of 0 4294967295 number)) (kind_of kind)
+selftest_of kind number files = do
+  read_kind ← kind_of kind
+  read_number ← number_of 0 4294967295 number
+  read_files ← number_of 1 200 files
+  Some (Selftest read_kind read_number read_files)
 
 -- the lines of two words: `inventory IMAGE` and `report JOURNAL`
 unfoldable pub two_words : List ℕ → Option Command

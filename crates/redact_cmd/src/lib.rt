@@ -3,6 +3,7 @@
 
 mod plan;
 mod report;
+mod rules;
 pub mod status;
 pub mod words;
 

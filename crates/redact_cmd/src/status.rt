@@ -78,3 +78,44 @@ fn line_of(status: &Status) -> ArrayString<LINE>
     line.push_str("\n");
     line
 }
+
+#[cfg(test)]
+mod tests {
+    use super::*;
+    use rx_store::MemSink;
+    use std::test::Fail;
+
+    #[test]
+    fn each_status_has_its_code_and_its_line(rt: HostRuntime) -> Result<(), Fail> {
+        let usage =
+            "dfredact: usage: inventory IMAGE, plan IMAGE RULES, redact IMAGE JOURNAL RULES, resume IMAGE JOURNAL, report JOURNAL, selftest KIND NUMBER FILES\n";
+        let table = [
+            (Status::Done, 0, ""),
+            (Status::Usage, 2, usage),
+            (
+                Status::DeviceFault,
+                10,
+                "dfredact: image or journal failed\n",
+            ),
+            (Status::SourceFault, 11, "dfredact: rule text failed\n"),
+            (Status::SinkFault, 12, "dfredact: output failed\n"),
+            (Status::NoMemory, 14, "dfredact: out of memory\n"),
+            (Status::NotBuilt, 15, "dfredact: not built yet\n"),
+        ];
+        for (status, code, line) in table {
+            let mut sink = MemSink::new(rt.alloc(), 200)?;
+            assert_eq!(rt; status.code(), code);
+            assert_eq!(rt; write_status(&status, &mut sink), Ok(()), "{status:?}");
+            assert_eq!(rt; sink.bytes(), line.as_bytes(), "{status:?}");
+        }
+        Ok(())
+    }
+
+    #[test]
+    fn a_line_that_finds_no_room_is_a_fault(rt: HostRuntime) -> Result<(), Fail> {
+        let mut sink = MemSink::new(rt.alloc(), 12)?;
+        assert_eq!(rt; write_status(&Status::NotBuilt, &mut sink), Err(Fault));
+        assert_eq!(rt; sink.bytes(), b"dfredact: no".as_slice());
+        Ok(())
+    }
+}

@@ -2,3 +2,10 @@ pub mod Adding
 pub mod Gathering
 pub mod Meeting
 pub mod Holding
+pub mod Paints
+pub mod Overlay
+pub mod OverlayKeeps
+pub mod OverlaySteps
+pub mod Joining
+pub mod JoiningSteps
+pub mod Filling

@@ -1,5 +1,5 @@
 //! The store over real files.
-ghost use Rattle.std.specs.Prelude.{◌≡◌, ◌≤◌, ◌+◌, ◌↔◌, length, IfOk, OnOk, OnErr, IsOk, IsErr, IsTrue};
+ghost use Rattle.std.specs.Prelude.{◌≡◌, ◌≤◌, ◌+◌, length, IfOk, OnOk, OnErr, IsOk, IsErr, IsTrue};
 ghost use Rattle.disk_defs.specs.Disk.{size_of, ReadsFrom};
 ghost use Rattle.disk_defs.specs.Count.{Rose};
 ghost use Rattle.rx_store.specs.Files.{IsMeasured, area_file, is_absent, has_failed, file_of, state_of_files};
@@ -98,7 +98,8 @@ impl FileArea {
     }
 }
 
-/// A store over real files. It tells the sizes that its files had when it was made, and no content.
+/// A store over real files. It tells the sizes that its files had when it was made, and no content. A read that a
+/// signal interrupted is made again, as std does; one that finds the end of its file too soon is a fault.
 #[derive(Drop)]
 pub struct FileStore {
     image: FileArea,

@@ -69,13 +69,15 @@ impl Sink for MemSink {
     fn write(&mut self, bytes: &[u8]) -> Result<usize, Fault>
         ensures within { IfOk result (λ count. count ≤ length bytes.now) }
         ensures progress { IfOk result (λ count. 0 < length bytes.now → 0 < count) }
-        ensures taken { IfOk result (λ count. Some self.new.bytes ≡ taken_with (Some self.old.bytes) (take count bytes.now)) }
+        ensures taken { IfOk result
+            (λ count. Some self.new.bytes ≡ taken_with (Some self.old.bytes) (take count bytes.now)) }
         ensures fault { OnErr result (self.new.bytes ≡ self.old.bytes) }
         ensures counts { self.old.faults ≤ self.new.faults }
         ensures cause { OnErr result (Rose self.old.faults self.new.faults) }
 
         // It takes what fits, and fails exactly where a piece that isn't empty finds no room at all.
-        ensures most { IfOk result (λ count. count ≡ min (length bytes.now) (self.old.room - length self.old.bytes)) }
+        ensures most { IfOk result
+            (λ count. count ≡ min (length bytes.now) (self.old.room - length self.old.bytes)) }
         ensures fails { 0 < length bytes.now → length self.old.bytes ≡ self.old.room → IsErr result }
         ensures not_empty { OnErr result (0 < length bytes.now) }
         ensures full { OnErr result (length self.old.bytes ≡ self.old.room) }

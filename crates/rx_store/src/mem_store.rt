@@ -164,7 +164,6 @@ impl Store for MemStore {
         Ok(())
     }
 
-    ghost use Rattle.std.proofs.Common.{rules};
     ghost use Rattle.disk_defs.specs.Memory.{tells_its_sizes_in_memory};
 
     ghost tells_its_sizes = { tells_its_sizes_in_memory };

@@ -7,8 +7,9 @@ use disk_defs::Fault;
 use std::io::Write;
 use std::marker::Model;
 
-/// A sink over a writer of std. It doesn't tell what it took. The writer is to pass on each write at once: what a
-/// buffer holds back counts as taken here.
+/// A sink over a writer of std. It doesn't tell what it took. A write of nothing is a fault, and one that a signal
+/// interrupted is made again, as std does. The writer is to pass on each write at once: what a buffer holds back counts
+/// as taken here.
 #[derive(Drop)]
 pub struct StdSink<W> {
     writer: W,

@@ -9,7 +9,8 @@ use disk_defs::Fault;
 use std::io::Read;
 use std::marker::Model;
 
-/// A source over a reader of std, or over a file that couldn't be opened. It doesn't tell what is still to come.
+/// A source over a reader of std, or over a file that couldn't be opened. It doesn't tell what is still to come. A read
+/// that a signal interrupted is made again, as std does.
 #[derive(Drop)]
 pub struct StdSource<R> {
     reader: Option<R>,

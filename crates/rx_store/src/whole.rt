@@ -43,10 +43,13 @@ pub fn read_to_end<R: Source>(
     source: &mut R,
     limit: usize,
 ) -> Result<Option<Vec<u8>>, ReadError>
-    ensures whole { IfOk result (λ answer. IfSome answer (λ text. IfSome (R.rest source.old) (λ rest. text.items ≡ rest))) }
-    ensures ended { IfOk result (λ answer. IfSome answer (λ _. IfSome (R.rest source.new) (λ rest. rest ≡ []))) }
+    ensures whole { IfOk result (λ answer. IfSome answer
+        (λ text. IfSome (R.rest source.old) (λ rest. text.items ≡ rest))) }
+    ensures ended { IfOk result (λ answer. IfSome answer
+        (λ _. IfSome (R.rest source.new) (λ rest. rest ≡ []))) }
     ensures within { IfOk result (λ answer. IfSome answer (λ text. length text.items ≤ limit)) }
-    ensures long { IfOk result (λ answer. IfNone answer (IfSome (R.rest source.old) (λ rest. limit < length rest))) }
+    ensures long { IfOk result (λ answer. IfNone answer
+        (IfSome (R.rest source.old) (λ rest. limit < length rest))) }
     ensures left { IsPartlyRead (R.rest source.old) (R.rest source.new) }
 
     ensures cause { IsErrOf result ReadError.Fault → Rose (R.faults source.old) (R.faults source.new) }

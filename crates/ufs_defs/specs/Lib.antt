@@ -4,3 +4,5 @@ pub mod Inode
 pub mod Directory
 pub mod Blocks
 pub mod Entries
+pub mod SoundSuperblock
+pub mod BlockLaws

@@ -1,1 +1,177 @@
--- Images of the first form: a small UFS2 with one file.
+-- Images of the first form: a UFS2 whose root holds one file of at most one block.
+use Rattle.std.specs.Prelude.{ℕ, ◌+◌, ◌*◌, ◌%◌, ℤ, pos, int_lt, Bool, true, false, not, ◌&&◌, ◌||◌, ◌==◌, nat_lt, nat_le, is_none, Option, Some, None, Result, Ok, Err, List, [], ◌∷◌, length, map}
+use Rattle.std.specs.List.{list_all}
+use Rattle.image_defs.specs.Ask.{Ask, Done, look, check, given, each, ◌>>=◌, ◌>>◌}
+use Rattle.rx_tree.specs.Path.{joined_path}
+use Rattle.rx_tree.specs.declared.file.FileEntry.{FileEntry}
+use Rattle.rx_tree.specs.declared.file.Kind.TheVariants.{File, Dir}
+use Rattle.rx_tree.specs.declared.volume.FsKind.{FsKind}
+use Rattle.rx_tree.specs.declared.volume.FsKind.TheVariants.{Ntfs, Ufs1, Ufs2, HfsPlus}
+use Rattle.ufs_defs.specs.Signed.{counted}
+use Rattle.ufs_defs.specs.Superblock.{superblock_of, wrong_field}
+use Rattle.ufs_defs.specs.Inode.{inode_place, inode_of, is_directory, is_file, is_snapshot}
+use Rattle.ufs_defs.specs.Directory.{Entry, entries_of, leading_entries}
+use Rattle.ufs_defs.specs.Blocks.{first_pointer, first_block, one_block_content}
+use Rattle.ufs_defs.specs.declared.superblock.Superblock.{Superblock}
+use Rattle.ufs_defs.specs.declared.inode.Inode.{Inode}
+use Rattle.volume_defs.specs.Kind.{kind_of}
+
+-- an image that hasn't the first form says nothing
+pub data FirstFault : Type 0 where
+  NotFirstForm : FirstFault
+
+-- a test of the first form
+abbrev pub demand : Bool → Ask FirstFault (Unit {0})
+demand test = check test NotFirstForm
+
+-- the image has at most 2^46 bytes, and the magic of a UFS2 has place in it
+abbrev pub is_first_length : ℕ → Bool
+is_first_length size = nat_le 66912 size && nat_le size 70368744177664
+
+-- the image is a UFS2
+abbrev pub is_first_kind : Option FsKind → Bool
+is_first_kind None = false
+is_first_kind (Some Ntfs) = false
+is_first_kind (Some HfsPlus) = false
+is_first_kind (Some Ufs1) = false
+is_first_kind (Some Ufs2) = true
+
+-- no field of the superblock is wrong, and a block is one fragment
+unfoldable pub is_first_superblock : Superblock → Bool
+is_first_superblock superblock = is_none (wrong_field superblock) && counted superblock.frag == 1
+
+-- the volume has an inode of this number, and it lies in the image
+unfoldable pub is_first_inode : ℕ → Superblock → ℕ → Bool
+is_first_inode size superblock number =
+    nat_lt number (superblock.ncg * superblock.ipg) && nat_le (inode_place superblock number + 256) size
+
+-- the first pointer leads to a block in the image
+unfoldable pub has_first_block : ℕ → Superblock → Inode → Bool
+has_first_block size superblock inode =
+    int_lt (pos 0) (first_pointer inode.direct)
+    && nat_le (first_block superblock inode + counted superblock.bsize) size
+
+-- an inode is neither a snapshot nor has an extended area
+abbrev pub is_plain : Inode → Bool
+is_plain inode = not (is_snapshot inode) && inode.extsize == 0
+
+-- the root is a directory whose content is some blocks of 512 bytes in its first block, which lies in the image
+unfoldable pub is_first_root : ℕ → Superblock → Inode → Bool
+is_first_root size superblock inode =
+    is_directory inode
+    && (is_plain inode
+    && ((inode.size % 512 == 0 && (nat_le 512 inode.size && nat_le inode.size (counted superblock.bsize)))
+    && has_first_block size superblock inode))
+
+-- a name of bytes that print, without a slash of either kind
+abbrev pub is_first_name : List ℕ → Bool
+is_first_name name = list_all (λ byte. (nat_le 0x21 byte && nat_le byte 0x7E) && (not (byte == 0x2F) && not (byte == 0x5C))) name
+
+-- an entry has such a name, and doesn't name the root
+unfoldable pub is_first_entry : Entry → Bool
+is_first_entry entry = is_first_name entry.name && nat_lt 2 entry.inode
+
+-- an entry leads to a file of at most twelve blocks
+unfoldable pub is_first_file : Superblock → Inode → Bool
+is_first_file superblock inode =
+    is_file inode && (is_plain inode && nat_le inode.size (12 * counted superblock.bsize))
+
+-- the file has at most one block, which lies in the image
+unfoldable pub is_small_file : ℕ → Superblock → Inode → Bool
+is_small_file size superblock inode =
+    nat_le inode.size (counted superblock.bsize) && (inode.size == 0 || has_first_block size superblock inode)
+
+-- one entry, and no more
+abbrev pub is_one : {X : Type 0} → List X → Bool
+is_one [] = false
+is_one (x ∷ []) = true
+is_one (x ∷ y ∷ xs) = false
+
+-- the superblock
+unfoldable pub first_superblock : Ask FirstFault Superblock
+first_superblock = do
+  bytes ← look 65536 1376
+  demand (is_first_superblock (superblock_of bytes))
+  Done (superblock_of bytes)
+
+-- the inode of a number
+unfoldable pub first_inode : ℕ → Superblock → ℕ → Ask FirstFault Inode
+first_inode size superblock number = do
+  demand (is_first_inode size superblock number)
+  bytes ← look (inode_place superblock number) 256
+  Done (inode_of bytes)
+
+-- the root's inode
+unfoldable pub first_root : ℕ → Superblock → Ask FirstFault Inode
+first_root size superblock = do
+  root ← first_inode size superblock 2
+  demand (is_first_root size superblock root)
+  Done root
+
+-- the entries of a directory's content that lead to files
+abbrev pub listed : Result (List Entry) ℕ → Result (List Entry) FirstFault
+listed (Ok entries) = Ok (leading_entries entries)
+listed (Err place) = Err NotFirstForm
+
+-- the entries of the root
+unfoldable pub first_entries : Superblock → Inode → Ask FirstFault (List Entry)
+first_entries superblock root = do
+  content ← look (first_block superblock root) root.size
+  given (listed (entries_of content))
+
+-- an entry and the inode of the file to which it leads
+pub record NamedInode : Type 0 where
+  pub entry : Entry
+  pub inode : Inode
+
+unfoldable pub first_file : ℕ → Superblock → Entry → Ask FirstFault NamedInode
+first_file size superblock entry = do
+  demand (is_first_entry entry)
+  inode ← first_inode size superblock entry.inode
+  demand (is_first_file superblock inode)
+  demand (is_small_file size superblock inode)
+  Done (record { entry = entry; inode = inode })
+
+-- the path of the root
+abbrev pub root_path : List ℕ
+root_path = 47 ∷ []
+
+-- the root as a file
+abbrev pub root_file : Superblock → Inode → FileEntry
+root_file superblock root = record {
+  id = record { volume = 0; number = 2 };
+  kind = Dir;
+  names = root_path ∷ [];
+  parts = one_block_content superblock root ∷ [];
+}
+
+-- the file to which an entry leads
+abbrev pub named_file : Superblock → NamedInode → FileEntry
+named_file superblock named = record {
+  id = record { volume = 0; number = named.entry.inode };
+  kind = File;
+  names = joined_path root_path named.entry.name ∷ [];
+  parts = one_block_content superblock named.inode ∷ [];
+}
+
+-- all files, by rising number
+abbrev pub files_of : Superblock → Inode → List NamedInode → List FileEntry
+files_of superblock root named = root_file superblock root ∷ map (named_file superblock) named
+
+-- the files of a UFS2 with a good superblock
+unfoldable pub files_below : ℕ → Superblock → Ask FirstFault (List FileEntry)
+files_below size superblock = do
+  root ← first_root size superblock
+  entries ← first_entries superblock root
+  demand (is_one entries)
+  named ← each (first_file size superblock) entries
+  Done (files_of superblock root named)
+
+-- the files of an image of the first form that has `size` bytes
+unfoldable pub first_files : ℕ → Ask FirstFault (List FileEntry)
+first_files size = do
+  demand (is_first_length size)
+  kind ← kind_of
+  demand (is_first_kind kind)
+  superblock ← first_superblock
+  files_below size superblock

@@ -1,6 +1,6 @@
 use Rattle.std.proofs.Common.{arith}
 use Rattle.std.specs.String.{string_bytes}
-use Rattle.redact_cmd.proofs.Lines.{command_of-two, command_of-three, command_of-four, command_of-few, command_of-many}
+use Rattle.redact_cmd.proofs.Lines.{command_of-two, command_of-three, command_of-four}
 use Rattle.redact_cmd.proofs.words.parse_words.Goals as goal
 
 pub returns-in-len2 : goal.returns-in-len2
@@ -17,9 +17,3 @@ pub returns-in-len4 : goal.returns-in-len4
 returns-in-len4 c =
     let e = command_of-four (λ word. string_bytes word) c.args.words.now c.verb-item-then-words-lt5.result c.second-item-then-words-lt5.result c.third-item-then-words-lt5.result c.fourth-item.result (omega arith) c.verb-item-then-words-lt5.is c.second-item-then-words-lt5.is c.third-item-then-words-lt5.is c.fourth-item.is in
     cc
-
-pub returns-in_default : goal.returns-in_default
-returns-in_default c = let e = command_of-few (λ word. string_bytes word) c.args.words.now (omega arith) in cc
-
-pub returns-in_default-2 : goal.returns-in_default-2
-returns-in_default-2 c = let e = command_of-many (λ word. string_bytes word) c.args.words.now (omega arith) in cc

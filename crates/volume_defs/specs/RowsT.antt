@@ -1,0 +1,128 @@
+-- What the definitions say of the small image, worked out by hand.
+use Rattle.std.specs.Prelude.{◌≡◌, ℕ, false, List, [], ◌∷◌, length, take, slice_set, Option, Some, None, Result, Ok, Err, refl}
+use Rattle.std.specs.Int.Count.{ones}
+use Rattle.image_defs.specs.Bytes.{part}
+use Rattle.image_defs.specs.Ask.{run, visits}
+use Rattle.image_defs.specs.Numbers.{little_at, little_signed_at}
+use Rattle.range_defs.specs.declared.Range.{Range}
+use Rattle.rx_ranges.specs.declared.pieces.PieceKind.TheVariants.{Disk}
+use Rattle.rx_tree.specs.declared.part.Role.TheVariants.{Content}
+use Rattle.rx_tree.specs.declared.file.Kind.TheVariants.{File, Dir}
+use Rattle.rx_tree.specs.declared.file.FileEntry.{FileEntry}
+use Rattle.rx_tree.specs.declared.volume.FsKind.TheVariants.{Ufs2}
+use Rattle.ufs_defs.specs.Superblock.{superblock_of, wrong_field}
+use Rattle.ufs_defs.specs.Inode.{inode_place, inode_of}
+use Rattle.ufs_defs.specs.Directory.{Entry, entries_of, entries_from, entries_within}
+use Rattle.ufs_defs.specs.Blocks.{first_block, one_block_content}
+use Rattle.volume_defs.specs.Kind.{kind_of}
+use Rattle.volume_defs.specs.FirstForm.{FirstFault, NotFirstForm, first_files, files_below, first_file, first_entries, first_root, first_inode, first_superblock, is_first_superblock, is_first_inode, has_first_block, is_first_root, is_first_entry, is_first_file, is_small_file}
+use Rattle.volume_defs.specs.ImageT.{image_t}
+
+length_t : length image_t ≡ 262144
+unfolding image_t
+length_t = refl
+
+kind_t : run {E = FirstFault} image_t kind_of ≡ Ok (Some Ufs2)
+unfolding image_t kind_of part
+kind_t = refl
+
+superblock_t : wrong_field (superblock_of (part image_t 65536 1376)) ≡ None
+unfolding image_t part superblock_of wrong_field little_at little_signed_at ones
+superblock_t = refl
+
+root_place_t : inode_place (superblock_of (part image_t 65536 1376)) 2 ≡ 74240
+unfolding image_t part superblock_of inode_place little_at little_signed_at
+root_place_t = refl
+
+file_place_t : inode_place (superblock_of (part image_t 65536 1376)) 3 ≡ 74496
+unfolding image_t part superblock_of inode_place little_at little_signed_at
+file_place_t = refl
+
+entries_t : entries_of (part image_t 81920 512) ≡ Ok (
+    record { at = 0; inode = 2; len = 12; name = 46 ∷ [] }
+    ∷ record { at = 12; inode = 2; len = 12; name = 46 ∷ 46 ∷ [] }
+    ∷ record { at = 24; inode = 3; len = 488; name = 97 ∷ [] }
+    ∷ [])
+unfolding image_t part entries_from entries_within little_at
+entries_t = refl
+
+-- the root, and the file "a" of three bytes
+abbrev pub files_t : List FileEntry
+files_t =
+    record {
+      id = record { volume = 0; number = 2 };
+      kind = Dir;
+      names = (47 ∷ []) ∷ [];
+      parts = record {
+        role = Content;
+        name = [];
+        size = 512;
+        pieces = record { from = 0; len = 512; kind = Disk; at = 81920 } ∷ [];
+        slack = record { at = 82432; len = 3584 } ∷ [];
+        unreadable = false;
+      } ∷ [];
+    }
+    ∷ record {
+      id = record { volume = 0; number = 3 };
+      kind = File;
+      names = (47 ∷ 97 ∷ []) ∷ [];
+      parts = record {
+        role = Content;
+        name = [];
+        size = 3;
+        pieces = record { from = 0; len = 3; kind = Disk; at = 86016 } ∷ [];
+        slack = record { at = 86019; len = 4093 } ∷ [];
+        unreadable = false;
+      } ∷ [];
+    }
+    ∷ []
+
+pub run_t : run image_t (first_files 262144) ≡ Ok files_t
+unfolding image_t part little_at little_signed_at superblock_of wrong_field inode_place inode_of entries_from entries_within first_block one_block_content kind_of first_files files_below first_file first_entries first_root first_inode first_superblock is_first_superblock is_first_inode has_first_block is_first_root is_first_entry is_first_file is_small_file ones
+run_t = refl
+
+-- the bytes on which that rests
+abbrev pub visits_of_t : List Range
+visits_of_t =
+    record { at = 3; len = 8 }
+    ∷ record { at = 510; len = 2 }
+    ∷ record { at = 1024; len = 4 }
+    ∷ record { at = 9564; len = 4 }
+    ∷ record { at = 66908; len = 4 }
+    ∷ record { at = 65536; len = 1376 }
+    ∷ record { at = 74240; len = 256 }
+    ∷ record { at = 81920; len = 512 }
+    ∷ record { at = 74496; len = 256 }
+    ∷ []
+
+pub visits_t : visits image_t (first_files 262144) ≡ visits_of_t
+unfolding image_t part little_at little_signed_at superblock_of wrong_field inode_place inode_of entries_from entries_within first_block one_block_content kind_of first_files files_below first_file first_entries first_root first_inode first_superblock is_first_superblock is_first_inode has_first_block is_first_root is_first_entry is_first_file is_small_file ones
+visits_t = refl
+
+-- without its last byte, the file's block isn't whole
+cut_block_t : run (take 90111 image_t) (first_files 90111) ≡ Err NotFirstForm
+unfolding image_t part little_at little_signed_at superblock_of wrong_field inode_place inode_of entries_from entries_within first_block one_block_content kind_of first_files files_below first_file first_entries first_root first_inode first_superblock is_first_superblock is_first_inode has_first_block is_first_root is_first_entry is_first_file is_small_file ones
+cut_block_t = refl
+
+-- cut inside what the kind rests on, or empty
+cut_t : run (take 1000 image_t) (first_files 1000) ≡ Err NotFirstForm
+unfolding image_t part little_at little_signed_at superblock_of wrong_field inode_place inode_of entries_from entries_within first_block one_block_content kind_of first_files files_below first_file first_entries first_root first_inode first_superblock is_first_superblock is_first_inode has_first_block is_first_root is_first_entry is_first_file is_small_file ones
+cut_t = refl
+
+empty_t : run [] (first_files 0) ≡ Err NotFirstForm
+unfolding image_t part little_at little_signed_at superblock_of wrong_field inode_place inode_of entries_from entries_within first_block one_block_content kind_of first_files files_below first_file first_entries first_root first_inode first_superblock is_first_superblock is_first_inode has_first_block is_first_root is_first_entry is_first_file is_small_file ones
+empty_t = refl
+
+-- the first pointer of inode 3 leads to the block at the image's end
+pointer_t : run (slice_set image_t 74608 64) (first_files 262144) ≡ Err NotFirstForm
+unfolding image_t part little_at little_signed_at superblock_of wrong_field inode_place inode_of entries_from entries_within first_block one_block_content kind_of first_files files_below first_file first_entries first_root first_inode first_superblock is_first_superblock is_first_inode has_first_block is_first_root is_first_entry is_first_file is_small_file ones
+pointer_t = refl
+
+-- the superblock tells of blocks without a byte
+block_size_t : run (slice_set image_t 65585 0) (first_files 262144) ≡ Err NotFirstForm
+unfolding image_t part little_at little_signed_at superblock_of wrong_field inode_place inode_of entries_from entries_within first_block one_block_content kind_of first_files files_below first_file first_entries first_root first_inode first_superblock is_first_superblock is_first_inode has_first_block is_first_root is_first_entry is_first_file is_small_file ones
+block_size_t = refl
+
+block_size_field_t : wrong_field (superblock_of (part (slice_set image_t 65585 0) 65536 1376)) ≡ Some 48
+unfolding image_t part superblock_of wrong_field little_at little_signed_at ones
+block_size_field_t = refl
