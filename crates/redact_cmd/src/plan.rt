@@ -16,6 +16,10 @@ use rx_ranges::{
     FillMap, ListKind, Listed, Listing, NoMemory, Piece, PieceKind, Plan, RangeList, Text,
 };
 use rx_tree::{FileEntry, Kind, Part, Role, Tree};
+
+#[cfg(test)]
+mod tests;
+
 use std::alloc::Global;
 
 /// What stands behind the last slash of a path.
