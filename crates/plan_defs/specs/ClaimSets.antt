@@ -1,15 +1,15 @@
 -- Laws on the bytes that ranges and claims have: where they end, and which bytes are claimed.
-use Rattle.std.proofs.Common.{◌≡◌, ℕ, zero, suc, ◌+◌, ◌-◌, ◌<◌, ◌≤◌, Bool, true, false, ◌&&◌, ◌||◌, ◌==◌, cond, Option, Some, None, is_some, nat_le, List, [], ◌∷◌, map, refl, sym, ◌∙◌, ap, ⊎_elim, arith}
+use Rattle.std.proofs.Common.{◌≡◌, ℕ, zero, suc, ◌+◌, ◌<◌, ◌≤◌, Bool, true, false, ◌&&◌, ◌||◌, ◌==◌, cond, Option, Some, None, is_some, nat_le, List, [], ◌∷◌, map, refl, sym, ◌∙◌, ap, ⊎_elim, arith}
 use Rattle.std.specs.List.{All, flat_map}
 use Rattle.std.proofs.lemmas.List.Elements.{All-head, All-tail, All-cons, All-nil, All-append}
-use Rattle.std.proofs.lemmas.Bool.{cases_lt, cases_eq, cond_both}
+use Rattle.std.proofs.lemmas.Bool.{cases_eq, cond_both}
 use Rattle.std.proofs.lemmas.Bool.Decides.{nat_tests}
 use Rattle.range_defs.specs.declared.Range.{Range}
 use Rattle.range_defs.specs.declared.Claim.{Claim}
 use Rattle.range_defs.specs.Places.{in_range, covers}
 use Rattle.range_defs.specs.RangeLaws.{EndsBy as RangeEndsBy, in_range-behind}
-use Rattle.range_defs.specs.Claims.{painted, lesser_paint, one_byte, IsFillMap, in_front, longest_claims}
-use Rattle.range_defs.specs.ClaimLaws.{EndsBy, painted-after, painted-inside}
+use Rattle.range_defs.specs.Claims.{painted, lesser_paint, one_byte, in_front, longest_claims}
+use Rattle.range_defs.specs.ClaimLaws.{EndsBy, painted-after}
 
 -- the range of each claim
 abbrev pub ranges_of : List Claim → List Range
