@@ -1,19 +1,15 @@
 -- Laws on the bytes that ranges and claims have: where they end, and which bytes are claimed.
-use Rattle.std.proofs.Common.{◌≡◌, ℕ, zero, suc, ◌+◌, ◌-◌, ◌<◌, ◌≤◌, Bool, true, false, ◌&&◌, ◌||◌, ◌==◌, cond, Option, Some, None, is_some, nat_le, List, [], ◌∷◌, map, refl, sym, ◌∙◌, ap, ⊎_elim, arith}
+use Rattle.std.proofs.Common.{◌≡◌, ℕ, zero, suc, ◌+◌, ◌<◌, ◌≤◌, Bool, true, false, ◌&&◌, ◌||◌, ◌==◌, cond, Option, Some, None, is_some, nat_le, List, [], ◌∷◌, map, refl, sym, ◌∙◌, ap, ⊎_elim, arith}
 use Rattle.std.specs.List.{All, flat_map}
 use Rattle.std.proofs.lemmas.List.Elements.{All-head, All-tail, All-cons, All-nil, All-append}
-use Rattle.std.proofs.lemmas.Bool.{cases_lt, cases_eq, cond_both}
+use Rattle.std.proofs.lemmas.Bool.{cases_eq, cond_both}
 use Rattle.std.proofs.lemmas.Bool.Decides.{nat_tests}
 use Rattle.range_defs.specs.declared.Range.{Range}
 use Rattle.range_defs.specs.declared.Claim.{Claim}
 use Rattle.range_defs.specs.Places.{in_range, covers}
-use Rattle.range_defs.specs.RangeLaws.{in_range-behind}
-use Rattle.range_defs.specs.Claims.{painted, lesser_paint, one_byte, IsFillMap, in_front, longest_claims}
-use Rattle.range_defs.specs.ClaimLaws.{EndsBy, painted-after, painted-inside}
-
--- a range ends at most at this byte
-abbrev pub RangeEndsBy : ℕ → Range → Type 0
-RangeEndsBy end range = range.at + range.len ≤ end
+use Rattle.range_defs.specs.RangeLaws.{EndsBy as RangeEndsBy, in_range-behind}
+use Rattle.range_defs.specs.Claims.{painted, lesser_paint, one_byte, in_front, longest_claims}
+use Rattle.range_defs.specs.ClaimLaws.{EndsBy, painted-after}
 
 -- the range of each claim
 abbrev pub ranges_of : List Claim → List Range
@@ -40,31 +36,6 @@ painted-past [] end byte within past = refl
 painted-past (claim ∷ claims) end byte within past =
     let ends : claim.range.at + claim.range.len ≤ end = All-head (EndsBy end) claim claims within in
     painted-after claim claims byte (omega arith) ∙ painted-past claims end byte (All-tail (EndsBy end) claim claims within) past
-
-lesser_paint-none : (paint other : Option (ℕ × ℕ)) → lesser_paint paint other ≡ None → other ≡ None
-lesser_paint-none None other none = none
-lesser_paint-none (Some paint) None none = refl
-lesser_paint-none (Some paint) (Some other) none =
-    let fails : (test : Bool) → cond test (Some paint) (Some other) ≡ None → Some other ≡ None =
-    λ test. elim test as (λ t. cond t (Some paint) (Some other) ≡ None → Some other ≡ None) [ true ↦ λ e. cc | false ↦ λ e. e ] in
-    fails (nat_le paint.0 other.0) none
-
--- a canonical list of claims that has no byte from one on ends there
-pub ends_by-unpainted : (claims : List Claim) (end : ℕ) → IsFillMap claims → ((byte : ℕ) → end ≤ byte → painted claims byte ≡ None)
-    → All (EndsBy end) claims
-ends_by-unpainted [] end kept past = All-nil (EndsBy end)
-ends_by-unpainted (claim ∷ claims) end kept past =
-    let last : ℕ = claim.range.at + claim.range.len - 1 in
-    let here : EndsBy end claim =
-    ⊎_elim
-    (λ longer. let inside : painted (claim ∷ claims) last ≡ Some (claim.rule, claim.fill) =
-    painted-inside claim claims last kept (omega (arith, kept.0)) (omega (arith, kept.0)) in
-    let out : painted (claim ∷ claims) last ≡ None = past last (omega (arith, longer)) in
-    absurd (cc))
-    (λ within. within)
-    (cases_lt end (claim.range.at + claim.range.len)) in
-    All-cons (EndsBy end) claim claims here
-    (ends_by-unpainted claims end kept.2 (λ byte behind. lesser_paint-none _ (painted claims byte) (past byte behind)))
 
 some-lesser_paint : (paint : ℕ × ℕ) (other : Option (ℕ × ℕ)) → true ≡ is_some (lesser_paint (Some paint) other)
 some-lesser_paint paint None = refl

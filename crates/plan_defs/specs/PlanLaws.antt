@@ -1,6 +1,6 @@
 -- Laws on the claims on files, the lines of a listing and the plan: what a reader of the plan's parts needs to know that
 -- they are the plan.
-use Rattle.std.proofs.Common.{◌≡◌, ℕ, zero, suc, ◌+◌, ◌<◌, ◌≤◌, Bool, true, false, ◌&&◌, cond, Option, Some, None, is_some, List, [], ◌∷◌, ◌++◌, map, length, get_or, refl, sym, ◌∙◌, ap, subst, arith}
+use Rattle.std.proofs.Common.{◌≡◌, ℕ, zero, suc, ◌+◌, ◌<◌, ◌≤◌, Bool, true, false, ◌&&◌, cond, Option, Some, None, is_some, List, [], ◌∷◌, map, length, get_or, refl, sym, ◌∙◌, ap, subst, arith}
 use mathlib.Core.Path.{fun_ext}
 use Rattle.std.specs.List.{All, flat_map}
 use Rattle.std.proofs.lemmas.List.Elements.{All-nil, All-cons, All-append, All-map, All-weaker, All-same}
@@ -8,9 +8,10 @@ use Rattle.std.proofs.lemmas.Bool.{cond_both, and_right}
 use Rattle.range_defs.specs.declared.Range.{Range}
 use Rattle.range_defs.specs.declared.Claim.{Claim}
 use Rattle.range_defs.specs.Places.{covers, IsLeast, least_below, EndsInReach}
+use Rattle.range_defs.specs.RangeLaws.{EndsBy as RangeEndsBy}
 use Rattle.range_defs.specs.LeastLaws.{same_as_least_below}
 use Rattle.range_defs.specs.Claims.{painted, longest_claims, IsFillMap, HaveOneFill}
-use Rattle.range_defs.specs.ClaimLaws.{EndsBy, same_as_longest_claims}
+use Rattle.range_defs.specs.ClaimLaws.{EndsBy, same_as_longest_claims, ends_where_painted}
 use Rattle.rx_ranges.specs.declared.pieces.PieceKind.{PieceKind}
 use Rattle.rx_ranges.specs.declared.pieces.PieceKind.TheVariants.{Disk, Zero}
 use Rattle.rx_ranges.specs.declared.plan.Plan.{Plan}
@@ -27,7 +28,7 @@ use Rattle.rule_defs.specs.declared.Action.{Action}
 use Rattle.rule_defs.specs.declared.Action.TheVariants.{Fill}
 use Rattle.rule_defs.specs.Settle.{holds, is_plain_file, settling_rule, disk_range, disk_ranges, content_range, content_ranges, fill_of, claimed_ranges, claim_by, claims_by, claims_on}
 use Rattle.plan_defs.specs.Plan.{all_claims, planned_at, is_planned, part_ranges, touched_ranges, touches_planned, lines_for, claim_some, alias_lines, file_lines, lines_of, plan_of, guarded_byte}
-use Rattle.plan_defs.specs.ClaimSets.{RangeEndsBy, All-flat_map, covers-past, painted-past, ends_by-unpainted, covers-claims, ends_by-longest, longest-covers}
+use Rattle.plan_defs.specs.ClaimSets.{All-flat_map, covers-past, painted-past, covers-claims, ends_by-longest, longest-covers}
 
 -- what lies within a length has its bytes there: pieces, parts, files, claims
 disk_range-of_kind : (end from size at : ℕ) (kind : PieceKind) → at + size ≤ end
@@ -182,7 +183,7 @@ all_claims-in_reach tree rules files claims within files_are claims_are =
 pub ranges-within : (tree : FoundTree) (rules : List Rule) (ranges : List Claim) → IsWithin tree → IsFillMap ranges
     → ((byte : ℕ) → painted ranges byte ≡ planned_at rules tree.files byte) → All (EndsBy tree.image_len) ranges
 ranges-within tree rules ranges within kept same =
-    ends_by-unpainted ranges tree.image_len kept
+    ends_where_painted ranges tree.image_len kept
     (λ byte behind. same byte ∙ painted-past (all_claims rules tree.files) tree.image_len byte
     (claims-within tree.image_len rules tree.files within.files) behind)
 

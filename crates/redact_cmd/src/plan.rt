@@ -1,14 +1,14 @@
 //! The plan that a rule makes of a tree.
-ghost use Rattle.std.specs.Prelude.{◌≡◌, ℕ, ◌&&◌, ◌++◌, [], ◌∷◌, All, List, Option, IfOk, is_some, map, nat_eq};
+ghost use Rattle.std.specs.Prelude.{◌≡◌, ℕ, ◌&&◌, ◌++◌, [], ◌∷◌, All, List, IfOk, is_some, map, nat_eq};
 ghost use Rattle.std.specs.Cmp.Lexicographic.{pointwise};
 ghost use Rattle.std.specs.List.{flat_map, list_any};
 ghost use Rattle.range_defs.specs.Claims.{painted};
 ghost use Rattle.range_defs.specs.Places.{covers, EndsInReach};
-ghost use Rattle.rx_tree.specs.Within.{ArePartsWithin, AreFilesWithin};
+ghost use Rattle.rx_tree.specs.Within.{ArePartsWithin};
 ghost use Rattle.rule_defs.specs.declared.Rule.{Rule as RuleValue};
 ghost use Rattle.rule_defs.specs.Settle.{last_component, holds, is_plain_file, disk_range, content_range, claim_by, claims_on};
 ghost use Rattle.plan_defs.specs.ClaimSets.{ranges_of};
-ghost use Rattle.plan_defs.specs.Plan.{all_claims, part_ranges, touches_planned, claim_some, lines_for, lines_of, plan_of, guarded_byte};
+ghost use Rattle.plan_defs.specs.Plan.{all_claims, part_ranges, touches_planned, claim_some, lines_of, plan_of, guarded_byte};
 
 use range_defs::{Claim, Range};
 use rule_defs::{Action, Condition, Rule};
@@ -17,6 +17,9 @@ use rx_ranges::{
 };
 use rx_tree::{FileEntry, Kind, Part, Role, Tree};
 use std::alloc::Global;
+
+#[cfg(test)]
+mod tests;
 
 /// What stands behind the last slash of a path.
 fn last_component(path: &[u8]) -> &[u8]
