@@ -1,2 +1,4 @@
 pub mod Lines
 pub mod FirstLines
+pub mod Reading
+pub mod Told

@@ -1,3 +1,4 @@
 pub mod Words
 pub mod FirstLine
 pub mod Status
+pub mod Stages

@@ -1,6 +1,7 @@
 //! The commands of the program.
 #![tactic(auto)]
 
+mod reader;
 mod report;
 mod rules;
 pub mod status;

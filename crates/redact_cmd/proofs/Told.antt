@@ -1,0 +1,63 @@
+-- What is told of an image at each step of its reading.
+use Rattle.std.proofs.Common.{◌≡◌, ℕ, Bool, true, false, Option, Some, None, IfSome, Result, Ok, Err, List, ap, sym, subst, ◌∙◌}
+use Rattle.std.proofs.lemmas.Bool.{false≢true}
+use Rattle.std.specs.Result.{IsErr, IsErrAnd}
+use Rattle.image_defs.specs.Bytes.{part}
+use Rattle.image_defs.specs.Ask.{run}
+use Rattle.ufs_defs.specs.Superblock.{superblock_of}
+use Rattle.ufs_defs.specs.Inode.{inode_place, inode_of}
+use Rattle.ufs_defs.specs.declared.superblock.Superblock.{Superblock}
+use Rattle.ufs_defs.specs.declared.inode.Inode.{Inode}
+use Rattle.volume_defs.specs.FirstForm.{FirstFault, NotFirstForm, is_first_superblock, is_first_inode, first_superblock, first_inode}
+use Rattle.volume_defs.specs.FirstReader.{run_first_superblock, run_first_superblock_fault, run_first_inode}
+use Rattle.redact_cmd.specs.Stages.{Gives, Refuses}
+use Rattle.redact_cmd.specs.declared.status.Status.{Status}
+use Rattle.redact_cmd.specs.declared.status.Status.TheVariants.{Done, Usage, DeviceFault, SourceFault, SinkFault, NoMemory, NotBuilt}
+
+-- what holds of each image holds of the one that is told
+pub told_all : {B : List ℕ → Type 0} (told : Option (List ℕ)) → ((image : List ℕ) → B image) → IfSome told B
+told_all None holds = tt
+told_all (Some image) holds = holds image
+
+-- what is told follows from what else is told
+pub told_map : {A B : List ℕ → Type 0} (told : Option (List ℕ)) → IfSome told A → ((image : List ℕ) → A image → B image) → IfSome told B
+told_map None first follows = tt
+told_map (Some image) first follows = follows image first
+
+-- a status that one step of a reading refuses with is refused with by the whole
+pub refuses_map : {X Y : Type 0} (status : Status) (found : Result X FirstFault) (whole : Result Y FirstFault) → (found ≡ Err NotFirstForm → whole ≡ Err NotFirstForm) → Refuses status found → Refuses status whole
+refuses_map Done found whole follows refuses = tt
+refuses_map Usage found whole follows refuses = tt
+refuses_map DeviceFault found whole follows refuses = tt
+refuses_map SourceFault found whole follows refuses = tt
+refuses_map SinkFault found whole follows refuses = tt
+refuses_map NoMemory found whole follows refuses = tt
+refuses_map NotBuilt found whole follows refuses = follows refuses
+
+-- an answer that passes on a step's refusal
+pub gives_refusal : {X Y : Type 0} (result : Result Y Status) (status : Status) (found : Result X FirstFault) (whole : Result Y FirstFault)
+    → IsErr result → IsErrAnd result (λ other. other ≡ status) → (found ≡ Err NotFirstForm → whole ≡ Err NotFirstForm) → Refuses status found → Gives result whole
+gives_refusal (Ok value) status found whole is same follows refuses = absurd (false≢true is)
+gives_refusal {Y = Y} (Err other) status found whole is same follows refuses =
+    let P : Status → Type 0 = λ s. Refuses s whole in
+    subst P (sym same) (refuses_map status found whole follows refuses)
+
+-- the superblock that was read
+pub superblock_read : (image bytes : List ℕ) (superblock : Superblock) → bytes ≡ part image 65536 1376 → superblock ≡ superblock_of bytes → is_first_superblock superblock ≡ true
+    → run image first_superblock ≡ Ok superblock
+superblock_read image bytes superblock bytes_are is first =
+    let same : superblock ≡ superblock_of (part image 65536 1376) = is ∙ ap superblock_of bytes_are in
+    run_first_superblock image (ap is_first_superblock (sym same) ∙ first) ∙ ap Ok (sym same)
+
+pub superblock_refused : (image bytes : List ℕ) (superblock : Superblock) → bytes ≡ part image 65536 1376 → superblock ≡ superblock_of bytes → is_first_superblock superblock ≡ false
+    → run image first_superblock ≡ Err NotFirstForm
+superblock_refused image bytes superblock bytes_are is bad =
+    let same : superblock ≡ superblock_of (part image 65536 1376) = is ∙ ap superblock_of bytes_are in
+    run_first_superblock_fault image (ap is_first_superblock (sym same) ∙ bad)
+
+-- the inode that was read
+pub inode_read : (image bytes : List ℕ) (size : ℕ) (superblock : Superblock) (number at : ℕ) (inode : Inode) → is_first_inode size superblock number ≡ true
+    → at ≡ inode_place superblock number → bytes ≡ part image at 256 → inode ≡ inode_of bytes → run image (first_inode size superblock number) ≡ Ok inode
+inode_read image bytes size superblock number at inode within place bytes_are is =
+    run_first_inode image size superblock number within
+    ∙ ap Ok (sym (is ∙ ap inode_of (bytes_are ∙ ap (λ from. part image from 256) place)))
