@@ -1,5 +1,5 @@
 -- What the reading of an image rests on.
-use Rattle.std.proofs.Common.{◌≡◌, ℕ, zero, suc, ◌+◌, ◌<◌, ◌≤◌, Bool, true, false, ◌&&◌, ◌==◌, ◌%◌, nat_le, is_none, pos, int_lt, if◌then◌else◌, Option, Some, None, Result, Ok, Err, List, [], ◌∷◌, ◌++◌, length, take, drop, slice_index, refl, sym, ap, subst, ◌∙◌, append-nil, arith}
+use Rattle.std.proofs.Common.{◌≡◌, ℕ, zero, suc, ◌+◌, ◌<◌, ◌≤◌, Bool, true, false, ◌&&◌, ◌==◌, ◌%◌, nat_le, nat_lt, ◌*◌, is_none, pos, int_lt, if◌then◌else◌, Option, Some, None, Result, Ok, Err, List, [], ◌∷◌, ◌++◌, length, take, drop, slice_index, refl, sym, ap, subst, ◌∙◌, append-nil, arith}
 use Rattle.std.proofs.lemmas.Bool.{false≢true, leb-true}
 use Rattle.std.proofs.lemmas.Bool.Decides.{Decides-eqb}
 use Rattle.std.proofs.lemmas.Grind.{common_steps}
@@ -9,8 +9,8 @@ use Rattle.ufs_defs.specs.Superblock.{first_applying, wrong_parts, wrong_field}
 use Rattle.ufs_defs.specs.Directory.{Entry, is_entry, entry_of, entries_of, record_length, leads_on, leading_entries}
 use Rattle.ufs_defs.specs.Entries.{IsWalkedTo, walk_starts, walk_goes_on, walk_ends, walk_stops}
 use Rattle.ufs_defs.specs.declared.superblock.Superblock.{Superblock}
-use Rattle.volume_defs.specs.FirstForm.{NotFirstForm, listed, is_first_superblock, is_first_root, is_plain, has_first_block}
-use Rattle.ufs_defs.specs.Inode.{is_directory}
+use Rattle.volume_defs.specs.FirstForm.{NotFirstForm, listed, is_first_superblock, is_first_inode, is_first_root, is_plain, has_first_block}
+use Rattle.ufs_defs.specs.Inode.{is_directory, inode_place}
 use Rattle.ufs_defs.specs.Blocks.{first_block, first_pointer}
 use Rattle.ufs_defs.specs.declared.inode.Inode.{Inode}
 use Rattle.ufs_defs.specs.Signed.{counted}
@@ -151,3 +151,9 @@ pub first_block_inside : (size : ℕ) (superblock : Superblock) (inode : Inode) 
 unfolding has_first_block
 first_block_inside size superblock inode has =
     leb-true (first_block superblock inode + counted superblock.bsize) size (both_hold (int_lt (pos 0) (first_pointer inode.direct)) (nat_le (first_block superblock inode + counted superblock.bsize) size) has).1
+
+-- an inode that an image of the first form has lies in it
+pub inode_inside : (size : ℕ) (superblock : Superblock) (number : ℕ) → is_first_inode size superblock number ≡ true → inode_place superblock number + 256 ≤ size
+unfolding is_first_inode
+inode_inside size superblock number within =
+    leb-true (inode_place superblock number + 256) size (both_hold (nat_lt number (superblock.ncg * superblock.ipg)) (nat_le (inode_place superblock number + 256) size) within).1

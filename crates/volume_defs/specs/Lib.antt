@@ -5,3 +5,4 @@ pub mod RowsT
 pub mod FirstTree
 pub mod FirstFootprint
 pub mod FirstReader
+pub mod FirstRanges

@@ -16,7 +16,7 @@ use ufs_defs::inode::Inode;
 use ufs_defs::superblock::Superblock;
 
 use super::directory::{Entry, NamedInode, may_be_named};
-use super::inode::{block_at, has_one_block, inode_at, inode_from, may_be_file, may_be_root};
+use super::inode::{block_at, has_one_block, inode_at, inode_within, inode_from, may_be_file, may_be_root};
 use super::read::{read_bytes, read_part};
 use super::superblock::{is_first, superblock_from};
 use crate::status::Status;
@@ -47,10 +47,10 @@ fn read_inode<S: Store>(store: &mut S, size: u64, superblock: &Superblock, numbe
     ensures counts { S.faults store.old ≤ S.faults store.new }
     ensures cause { IsErrOf result Status.DeviceFault → Rose (S.faults store.old) (S.faults store.new) }
 {
-    let Some(at) = inode_at(size, superblock, number) else {
+    if !inode_within(size, superblock, number) {
         return Err(Status::NotBuilt);
-    };
-    let bytes: [u8; 256] = read_bytes(store, at)?;
+    }
+    let bytes: [u8; 256] = read_bytes(store, inode_at(size, superblock, number))?;
     Ok(inode_from(&bytes))
 }
 
@@ -88,13 +88,13 @@ pub(super) fn read_content<S: Store>(alloc: Global, store: &mut S, size: u64, su
 }
 
 /// The file to which an entry leads.
-pub(super) fn read_file<'a, S: Store>(store: &mut S, size: u64, superblock: &Superblock, entry: Entry<'a>) -> Result<NamedInode<'a>, Status>
+pub(super) fn read_file<'a, S: Store>(store: &mut S, size: u64, superblock: &Superblock, leading: Entry<'a>) -> Result<NamedInode<'a>, Status>
     requires size { size ≡ size_of Image (S.state store.old) }
     requires first { is_first_superblock superblock.now ≡ true }
-    ensures told { IfSome (told_image (S.state store.old)) (λ image. Gives result (run image (first_file size superblock.now entry))) }
-    ensures entry { IfOk result (λ named. named.entry ≡ entry) }
-    ensures named { OnOk result (is_first_entry entry ≡ true) }
-    ensures within { OnOk result (is_first_inode size superblock.now entry.inode ≡ true) }
+    ensures told { IfSome (told_image (S.state store.old)) (λ image. Gives result (run image (first_file size superblock.now leading.entry))) }
+    ensures entry { IfOk result (λ named. named.entry ≡ leading.entry) }
+    ensures named { OnOk result (is_first_entry leading.entry ≡ true) }
+    ensures within { OnOk result (is_first_inode size superblock.now leading.entry.inode ≡ true) }
     ensures file { IfOk result (λ named. is_first_file superblock.now named.inode ≡ true) }
     ensures small { IfOk result (λ named. is_small_file size superblock.now named.inode ≡ true) }
     ensures same { S.state store.new ≡ S.state store.old }
@@ -102,15 +102,15 @@ pub(super) fn read_file<'a, S: Store>(store: &mut S, size: u64, superblock: &Sup
     ensures counts { S.faults store.old ≤ S.faults store.new }
     ensures cause { IsErrOf result Status.DeviceFault → Rose (S.faults store.old) (S.faults store.new) }
 {
-    if !may_be_named(&entry) {
+    if !may_be_named(&leading) {
         return Err(Status::NotBuilt);
     }
-    let inode = read_inode(store, size, superblock, entry.inode)?;
+    let inode = read_inode(store, size, superblock, leading.inode)?;
     if !may_be_file(superblock, &inode) {
         return Err(Status::NotBuilt);
     }
     if !has_one_block(size, superblock, &inode) {
         return Err(Status::NotBuilt);
     }
-    Ok(NamedInode { entry, inode })
+    Ok(NamedInode { entry: leading, inode })
 }

@@ -1,5 +1,5 @@
 //! Inodes of an image of the first form.
-ghost use Rattle.std.specs.Prelude.{◌≡◌, ◌≤◌, ◌<◌, ◌^◌, ◌+◌, true, false, IsTrue, IfSome, IfNone, length};
+ghost use Rattle.std.specs.Prelude.{◌≡◌, ◌≤◌, ◌<◌, ◌^◌, ◌+◌, true, length};
 ghost use Rattle.ufs_defs.specs.Signed.{counted};
 ghost use Rattle.ufs_defs.specs.Inode.{inode_of, inode_place, inode_fragment};
 ghost use Rattle.ufs_defs.specs.Blocks.{first_block};
@@ -66,31 +66,35 @@ fn place_of_inode(superblock: &Superblock, number: u32) -> u128
 }
 
 /// Whether the volume has an inode of this number that lies in the image.
-#[tactic(auto, unfolding(volume_defs::specs::FirstForm::is_first_inode))]
-fn inode_within(size: u64, superblock: &Superblock, number: u32) -> bool
-    requires in_groups { 0 < superblock.now.ipg }
-    requires in_blocks { 0 < superblock.now.inopb }
-    ensures within { result ≡ is_first_inode size superblock.now number }
-    ensures place { IsTrue result → inode_place superblock.now number + 256 ≤ size }
+#[tactic(
+    auto,
+    unfolding(volume_defs::specs::FirstForm::is_first_inode),
+    using(crate::proofs::Reading::some_in_group, crate::proofs::Reading::some_in_block)
+)]
+pub(super) fn inode_within(size: u64, superblock: &Superblock, number: u32) -> bool
+    requires { is_first_superblock superblock.now ≡ true }
+    ensures { result ≡ is_first_inode size superblock.now number }
 {
     let inodes = u64::from(superblock.ncg) * u64::from(superblock.ipg);
     u64::from(number) < inodes && place_of_inode(superblock, number) + 256 <= u128::from(size)
 }
 
-/// The place of the inode of a number, if the volume has one that lies in the image.
-#[tactic(auto, using(crate::proofs::Reading::some_in_group, crate::proofs::Reading::some_in_block))]
-pub(super) fn inode_at(size: u64, superblock: &Superblock, number: u32) -> Option<u64>
-    requires { is_first_superblock superblock.now ≡ true }
-    ensures place { IfSome result (λ at. at ≡ inode_place superblock.now number) }
-    ensures inside { IfSome result (λ at. at + 256 ≤ size) }
-    ensures within { IfSome result (λ _. is_first_inode size superblock.now number ≡ true) }
-    ensures none { IfNone result (is_first_inode size superblock.now number ≡ false) }
+/// The place of the inode of a number that the volume has and that lies in the image.
+#[tactic(
+    auto,
+    using(
+        crate::proofs::Reading::some_in_group,
+        crate::proofs::Reading::some_in_block,
+        crate::proofs::Reading::inode_inside
+    )
+)]
+pub(super) fn inode_at(size: u64, superblock: &Superblock, number: u32) -> u64
+    requires first { is_first_superblock superblock.now ≡ true }
+    requires within { is_first_inode size superblock.now number ≡ true }
+    ensures place { result ≡ inode_place superblock.now number }
+    ensures inside { result + 256 ≤ size }
 {
-    if inode_within(size, superblock, number) {
-        Some(place_of_inode(superblock, number) as u64)
-    } else {
-        None
-    }
+    place_of_inode(superblock, number) as u64
 }
 
 /// The place in the image of the first block of an inode.
