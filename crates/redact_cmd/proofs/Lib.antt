@@ -2,3 +2,4 @@ pub mod Lines
 pub mod FirstLines
 pub mod Reading
 pub mod Told
+pub mod Tree

@@ -1,6 +1,6 @@
 -- What the reading of an image rests on.
-use Rattle.std.proofs.Common.{◌≡◌, ℕ, zero, suc, ◌+◌, ◌<◌, ◌≤◌, Bool, true, false, ◌&&◌, ◌==◌, ◌%◌, nat_le, nat_lt, ◌*◌, is_none, pos, int_lt, if◌then◌else◌, Option, Some, None, Result, Ok, Err, List, [], ◌∷◌, ◌++◌, length, take, drop, slice_index, refl, sym, ap, subst, ◌∙◌, append-nil, arith}
-use Rattle.std.proofs.lemmas.Bool.{false≢true, leb-true}
+use Rattle.std.proofs.Common.{◌≡◌, ℕ, zero, suc, ◌+◌, ◌<◌, ◌≤◌, Bool, true, false, ◌&&◌, ◌||◌, ◌==◌, ◌%◌, nat_le, nat_lt, ◌*◌, is_none, pos, int_lt, if◌then◌else◌, Option, Some, None, Result, Ok, Err, List, [], ◌∷◌, ◌++◌, length, take, drop, slice_index, refl, sym, ap, subst, ◌∙◌, append-nil, one-mul, arith}
+use Rattle.std.proofs.lemmas.Bool.{false≢true, leb-true, le-leb}
 use Rattle.std.proofs.lemmas.Bool.Decides.{Decides-eqb}
 use Rattle.std.proofs.lemmas.Grind.{common_steps}
 use Rattle.image_defs.specs.Numbers.{little_at}
@@ -9,7 +9,7 @@ use Rattle.ufs_defs.specs.Superblock.{first_applying, wrong_parts, wrong_field}
 use Rattle.ufs_defs.specs.Directory.{Entry, is_entry, entry_of, entries_of, record_length, leads_on, leading_entries}
 use Rattle.ufs_defs.specs.Entries.{IsWalkedTo, walk_starts, walk_goes_on, walk_ends, walk_stops}
 use Rattle.ufs_defs.specs.declared.superblock.Superblock.{Superblock}
-use Rattle.volume_defs.specs.FirstForm.{NotFirstForm, listed, is_first_superblock, is_first_inode, is_first_root, is_plain, has_first_block}
+use Rattle.volume_defs.specs.FirstForm.{NotFirstForm, listed, is_first_superblock, is_first_inode, is_first_root, is_plain, has_first_block, is_small_file}
 use Rattle.ufs_defs.specs.Inode.{is_directory, inode_place}
 use Rattle.ufs_defs.specs.Blocks.{first_block, first_pointer}
 use Rattle.ufs_defs.specs.declared.inode.Inode.{Inode}
@@ -157,3 +157,43 @@ pub inode_inside : (size : ℕ) (superblock : Superblock) (number : ℕ) → is_
 unfolding is_first_inode
 inode_inside size superblock number within =
     leb-true (inode_place superblock number + 256) size (both_hold (nat_lt number (superblock.ncg * superblock.ipg)) (nat_le (inode_place superblock number + 256) size) within).1
+
+-- what holds of a file of at most one block in the image
+pub small_fits_block : (size : ℕ) (superblock : Superblock) (inode : Inode) → is_small_file size superblock inode ≡ true → inode.size ≤ counted superblock.bsize
+unfolding is_small_file
+small_fits_block size superblock inode small =
+    leb-true inode.size (counted superblock.bsize) (both_hold (nat_le inode.size (counted superblock.bsize)) (inode.size == 0 || has_first_block size superblock inode) small).0
+
+pub small_has_first_block : (size : ℕ) (superblock : Superblock) (inode : Inode) → is_small_file size superblock inode ≡ true → 0 < inode.size → has_first_block size superblock inode ≡ true
+unfolding is_small_file
+small_has_first_block size superblock inode small some =
+    other (inode.size == 0) (has_first_block size superblock inode) (both_hold (nat_le inode.size (counted superblock.bsize)) (inode.size == 0 || has_first_block size superblock inode) small).1
+        (λ none. absurd (omega (arith, (Decides-eqb inode.size 0).0 none)))
+  where
+    other : (a b : Bool) → (a || b) ≡ true → (a ≡ true → b ≡ true) → b ≡ true
+    other true b either follows = follows refl
+    other false b either follows = either
+
+-- the root is such a file
+pub root_is_small : (size : ℕ) (superblock : Superblock) (root : Inode) → is_first_root size superblock root ≡ true → is_small_file size superblock root ≡ true
+unfolding is_small_file
+root_is_small size superblock root first =
+    rw (le-leb root.size (counted superblock.bsize) (root_fits_block size superblock root first), root_has_first_block size superblock root first) (or_true (root.size == 0))
+  where
+    or_true : (a : Bool) → (true && (a || true)) ≡ true
+    or_true true = refl
+    or_true false = refl
+
+-- a block of an image of the first form is one fragment
+pub block_is_fragment : (superblock : Superblock) → is_first_superblock superblock ≡ true → counted superblock.bsize ≡ counted superblock.fsize
+unfolding is_first_superblock
+block_is_fragment superblock first =
+    let sound = first_is_sound superblock first in
+    let one : counted superblock.frag ≡ 1 = (Decides-eqb (counted superblock.frag) 1).0 (both_hold (is_none (wrong_field superblock)) (counted superblock.frag == 1) first).1 in
+    sym sound.fragments ∙ ap (λ n. n * counted superblock.fsize) one ∙ one-mul (counted superblock.fsize)
+
+pub greatest_block : (superblock : Superblock) → is_first_superblock superblock ≡ true → counted superblock.bsize ≤ 65536
+greatest_block superblock first = (first_is_sound superblock first).greatest_block
+
+pub least_block : (superblock : Superblock) → is_first_superblock superblock ≡ true → 4096 ≤ counted superblock.bsize
+least_block superblock first = (first_is_sound superblock first).least_block

@@ -1,5 +1,6 @@
 //! Reads an image of the first form.
 
+mod content;
 mod directory;
 mod found;
 mod inode;
