@@ -1,12 +1,21 @@
 -- What the tree of an image of the first form rests on.
-use Rattle.std.proofs.Common.{◌≡◌, ℕ, zero, suc, ◌+◌, ◌-◌, ◌<◌, ◌≤◌, Bool, true, false, ◌||◌, ◌==◌, if◌then◌else◌, List, [], ◌∷◌, ◌++◌, All, refl, sym, ap, ◌∙◌, arith}
-use Rattle.std.proofs.lemmas.Bool.{false≢true}
+use Rattle.std.proofs.Common.{◌≡◌, ℕ, zero, suc, ◌+◌, ◌-◌, ◌*◌, ◌/◌, ◌%◌, min, zero-mul, ◌<◌, ◌≤◌, Bool, true, false, ◌&&◌, ◌||◌, ◌==◌, not, nat_le, if◌then◌else◌, List, [], ◌∷◌, ◌++◌, All, refl, sym, ap, ◌∙◌, arith}
+use Rattle.std.proofs.Math.Nat.{mul-le-mul_right}
+use Rattle.std.proofs.lemmas.Grind.{div_ceil_times}
+use Rattle.std.proofs.lemmas.Bool.{false≢true, leb-true}
+use Rattle.std.proofs.lemmas.Str.{IsUtf8-from_ascii}
+use Rattle.std.specs.Str.{IsUtf8, IsAscii}
+use Rattle.volume_defs.specs.FirstForm.{is_first_name}
 use Rattle.std.proofs.lemmas.Bool.Decides.{nat_tests, Decides-eqb}
 use Rattle.std.proofs.lemmas.List.Elements.{All-head, All-tail, All-cons, All-nil}
 use Rattle.range_defs.specs.declared.Range.{Range}
 use Rattle.range_defs.specs.Places.{covers, in_range, IsRangeList, longest_ranges}
-use Rattle.range_defs.specs.RangeLaws.{same_range_list, same_as_longest_ranges}
+use Rattle.range_defs.specs.RangeLaws.{covers-inside, same_range_list, same_as_longest_ranges}
+use Rattle.image_defs.specs.Agreement.{covers_behind}
+use Rattle.rx_tree.specs.Within.{AreRangesWithin}
+use Rattle.rx_ranges.specs.declared.pieces.Piece.{Piece}
 use Rattle.rx_tree.specs.FoundPart.{FoundPart}
+use Rattle.rx_tree.specs.declared.part.Role.TheVariants.{Content}
 use Rattle.ufs_defs.specs.Signed.{counted}
 use Rattle.ufs_defs.specs.Blocks.{first_block, rounded_up, one_block_pieces, one_block_slack, one_block_content}
 use Rattle.ufs_defs.specs.BlockLaws.{one_block_slack_kept, rounded_up_holds}
@@ -25,3 +34,79 @@ slack_is list fragment size at some kept agree =
     none_left byte false is = refl
     covered : (byte : ℕ) → covers (record { at = at + size; len = rounded_up fragment size - size } ∷ []) byte ≡ covers (one_block_slack fragment size at) byte
     covered byte = none_left byte (rounded_up fragment size == size) (λ full. (Decides-eqb (rounded_up fragment size) size).0 full)
+
+rounded_up_none : (fragment : ℕ) → 0 < fragment → rounded_up fragment 0 ≡ 0
+rounded_up_none fragment some = no_count (0 / fragment + min 1 (0 % fragment)) fragment some (div_ceil_times 0 fragment some).1
+  where
+    no_count : (count unit : ℕ) → 0 < unit → count * unit < 0 + unit → count * unit ≡ 0
+    no_count zero unit some less = zero-mul unit
+    no_count (suc count) unit some less = absurd (let more : 1 * unit ≤ suc count * unit = mul-le-mul_right unit (omega arith) in omega (arith, more))
+
+-- where an empty file begins makes no difference
+pieces_same : (size at other : ℕ) → (0 < size → at ≡ other) → one_block_pieces size at ≡ one_block_pieces size other
+pieces_same zero at other same = refl
+pieces_same (suc size) at other same = ap (λ place. one_block_pieces (suc size) place) (same (omega arith))
+
+slack_same : (fragment size at other : ℕ) → 0 < fragment → (0 < size → at ≡ other) → one_block_slack fragment size at ≡ one_block_slack fragment size other
+slack_same fragment zero at other some same = rw (rounded_up_none fragment some) refl
+slack_same fragment (suc size) at other some same = ap (λ place. one_block_slack fragment (suc size) place) (same (omega arith))
+
+-- the parts of a content that begins at a place
+pub content_is : (superblock : Superblock) (inode : Inode) (at fragment : ℕ) (name : List ℕ) (pieces : List Piece) (slack : List Range) → fragment ≡ counted superblock.fsize → 0 < fragment
+    → (0 < inode.size → at ≡ first_block superblock inode) → name ≡ [] → pieces ≡ one_block_pieces inode.size at → slack ≡ one_block_slack fragment inode.size at
+    → one_block_content superblock inode ≡ record { role = Content; name = name; size = inode.size; pieces = pieces; slack = slack; unreadable = false }
+unfolding one_block_content
+content_is superblock inode at fragment name pieces slack is some begins none pieces_are slack_is =
+    let P : List ℕ → List Piece → List Range → FoundPart = λ n p s. record { role = Content; name = n; size = inode.size; pieces = p; slack = s; unreadable = false } in
+    ap (λ n. P n (one_block_pieces inode.size (first_block superblock inode)) (one_block_slack (counted superblock.fsize) inode.size (first_block superblock inode))) (sym none)
+    ∙ ap (λ p. P name p (one_block_slack (counted superblock.fsize) inode.size (first_block superblock inode)))
+        (sym (pieces_are ∙ pieces_same inode.size at (first_block superblock inode) begins))
+    ∙ ap (λ s. P name pieces s)
+        (sym (slack_is ∙ slack_same fragment inode.size at (first_block superblock inode) some begins ∙ ap (λ n. one_block_slack n inode.size (first_block superblock inode)) is))
+
+first_name-ascii : (name : List ℕ) → is_first_name name ≡ true → IsAscii name
+first_name-ascii [] first i = omega arith
+first_name-ascii (byte ∷ bytes) first zero = ascii_first (nat_le byte 0x7E) (λ small. leb-true byte 0x7E small) first
+  where
+    ascii_first : (small : Bool) → (small ≡ true → byte ≤ 0x7E) → (((nat_le 0x21 byte && small) && (not (byte == 0x2F) && not (byte == 0x5C))) && is_first_name bytes) ≡ true → byte < 128
+    ascii_first true holds all = omega (arith, holds refl)
+    ascii_first false holds all = absurd (grind (arith, nat_tests))
+first_name-ascii (byte ∷ bytes) first (suc i) = first_name-ascii bytes (rest_of _ (is_first_name bytes) first) i
+  where
+    rest_of : (a b : Bool) → (a && b) ≡ true → b ≡ true
+    rest_of true b is = is
+    rest_of false b is = absurd cc
+
+-- a name of bytes that print is text
+pub first_name_is_utf8 : (name : List ℕ) → is_first_name name ≡ true → IsUtf8 name
+first_name_is_utf8 name first = IsUtf8-from_ascii name (first_name-ascii name first)
+
+-- where all ranges of a kept list end, if no byte from there on is covered
+ends_by : (ranges : List Range) (end : ℕ) → IsRangeList ranges → ((byte : ℕ) → covers ranges byte ≡ true → byte < end) → AreRangesWithin end ranges
+ends_by [] end kept low = All-nil (λ range. range.at + range.len ≤ end)
+ends_by (range ∷ ranges) end kept low =
+    let last : ℕ = range.at + (range.len - 1) in
+    let below : last < end = low last (covers-inside range ranges last (omega arith) (omega (arith, kept.0))) in
+    All-cons (λ range. range.at + range.len ≤ end) range ranges (omega (arith, below, kept.0))
+        (ends_by ranges end kept.2 (λ byte covered. low byte (covers_behind range ranges byte covered)))
+
+-- no byte from the end of some ranges on is covered
+covered_below : (ranges : List Range) (end byte : ℕ) → AreRangesWithin end ranges → covers ranges byte ≡ true → byte < end
+covered_below [] end byte within covered = absurd (false≢true covered)
+covered_below (range ∷ ranges) end byte within covered =
+    here_or_behind (in_range range byte) (λ here. grind (arith, nat_tests, All-head (λ range. range.at + range.len ≤ end) range ranges within)) covered
+  where
+    here_or_behind : (here : Bool) → (here ≡ true → byte < end) → (here || covers ranges byte) ≡ true → byte < end
+    here_or_behind true inside is = inside refl
+    here_or_behind false inside is = covered_below ranges end byte (All-tail (λ range. range.at + range.len ≤ end) range ranges within) is
+
+-- the kept list of the bytes of some ranges lies where they lie
+pub kept_within : (list ranges : List Range) (end : ℕ) → IsRangeList list → ((byte : ℕ) → covers list byte ≡ covers ranges byte) → AreRangesWithin end ranges → AreRangesWithin end list
+kept_within list ranges end kept agree within =
+    ends_by list end kept (λ byte covered. covered_below ranges end byte within (sym (agree byte) ∙ covered))
+
+-- and it is the list of the longest ranges of those bytes
+pub guard_is : (list ranges : List Range) (end : ℕ) → IsRangeList list → ((byte : ℕ) → covers list byte ≡ covers ranges byte) → AreRangesWithin end ranges
+    → list ≡ longest_ranges (covers ranges) 0 end
+guard_is list ranges end kept agree within =
+    same_as_longest_ranges (covers ranges) end list kept agree (kept_within list ranges end kept agree within)

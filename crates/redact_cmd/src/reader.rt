@@ -7,3 +7,4 @@ mod inode;
 mod kind;
 mod read;
 mod superblock;
+mod tree;

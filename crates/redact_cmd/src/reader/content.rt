@@ -69,6 +69,13 @@ fn start_of(size: u64, superblock: &Superblock, inode: &Inode) -> u64
     if inode.size == 0 { 0 } else { block_at(size, superblock, inode) }
 }
 
+/// The bytes of a fragment.
+fn fragment_of(superblock: &Superblock) -> u64
+    ensures { result ≡ counted superblock.now.fsize }
+{
+    u64::from(count_of(superblock.fsize))
+}
+
 /// The content of a file of at most one block.
 #[tactic(
     auto,
@@ -86,7 +93,7 @@ pub(super) fn content_of(alloc: Global, size: u64, superblock: &Superblock, inod
     requires small { is_small_file size superblock.now inode.now ≡ true }
     ensures { IfOk result (λ part. part ≡ one_block_content superblock.now inode.now) }
 {
-    let fragment = u64::from(count_of(superblock.fsize));
+    let fragment = fragment_of(superblock);
     let at = start_of(size, superblock, inode);
     let slack = slack_of(alloc, fragment, inode.size, at)?;
     Ok(Part {
