@@ -110,7 +110,7 @@ some_in_block superblock first =
     let sound = first_is_sound superblock first in
     omega (arith, sound.inodes_in_block, sound.least_block)
 
-both_hold : (a b : Bool) → (a && b) ≡ true → (a ≡ true) × (b ≡ true)
+pub both_hold : (a b : Bool) → (a && b) ≡ true → (a ≡ true) × (b ≡ true)
 both_hold true b is = (refl, is)
 both_hold false b is = absurd (false≢true is)
 

@@ -1,24 +1,31 @@
 -- What the tree of an image of the first form rests on.
-use Rattle.std.proofs.Common.{◌≡◌, ℕ, zero, suc, ◌+◌, ◌-◌, ◌*◌, ◌/◌, ◌%◌, min, zero-mul, ◌<◌, ◌≤◌, Bool, true, false, ◌&&◌, ◌||◌, ◌==◌, not, nat_le, if◌then◌else◌, List, [], ◌∷◌, ◌++◌, All, refl, sym, ap, ◌∙◌, arith}
+use Rattle.std.proofs.Common.{◌≡◌, ℕ, zero, suc, ◌+◌, ◌-◌, ◌*◌, ◌/◌, ◌%◌, min, zero-mul, ◌<◌, ◌≤◌, Bool, true, false, ◌&&◌, ◌||◌, ◌==◌, not, nat_le, nat_lt, Result, Ok, Err, IfOk, if◌then◌else◌, List, [], ◌∷◌, ◌++◌, All, refl, sym, ap, ◌∙◌, arith}
 use Rattle.std.proofs.Math.Nat.{mul-le-mul_right}
 use Rattle.std.proofs.lemmas.Grind.{div_ceil_times}
 use Rattle.std.proofs.lemmas.Bool.{false≢true, leb-true}
 use Rattle.std.proofs.lemmas.Str.{IsUtf8-from_ascii}
 use Rattle.std.specs.Str.{IsUtf8, IsAscii}
-use Rattle.volume_defs.specs.FirstForm.{is_first_name}
+use Rattle.volume_defs.specs.FirstForm.{NamedInode, is_first_name, is_first_entry, is_first_superblock, is_first_root, is_small_file, root_file, named_file, files_of}
+use Rattle.volume_defs.specs.FirstTree.{whole_volume, tree_of}
+use Rattle.rx_tree.specs.FoundTree.{FoundTree}
+use Rattle.rx_tree.specs.Order.{HaveRisingIds}
+use Rattle.rx_tree.specs.declared.file.FileEntry.{FileEntry}
+use Rattle.rx_tree.specs.declared.volume.Volume.{Volume}
+use Rattle.ufs_defs.specs.Directory.{Entry}
+use Rattle.redact_cmd.proofs.Reading.{both_hold, block_is_fragment, least_block, small_fits_block, small_has_first_block, first_block_inside, root_is_small}
 use Rattle.std.proofs.lemmas.Bool.Decides.{nat_tests, Decides-eqb}
 use Rattle.std.proofs.lemmas.List.Elements.{All-head, All-tail, All-cons, All-nil}
 use Rattle.range_defs.specs.declared.Range.{Range}
 use Rattle.range_defs.specs.Places.{covers, in_range, IsRangeList, longest_ranges}
 use Rattle.range_defs.specs.RangeLaws.{covers-inside, same_range_list, same_as_longest_ranges}
 use Rattle.image_defs.specs.Agreement.{covers_behind}
-use Rattle.rx_tree.specs.Within.{AreRangesWithin}
+use Rattle.rx_tree.specs.Within.{AreRangesWithin, ArePiecesWithin, ArePartsWithin, IsWithin}
 use Rattle.rx_ranges.specs.declared.pieces.Piece.{Piece}
 use Rattle.rx_tree.specs.FoundPart.{FoundPart}
 use Rattle.rx_tree.specs.declared.part.Role.TheVariants.{Content}
 use Rattle.ufs_defs.specs.Signed.{counted}
 use Rattle.ufs_defs.specs.Blocks.{first_block, rounded_up, one_block_pieces, one_block_slack, one_block_content}
-use Rattle.ufs_defs.specs.BlockLaws.{one_block_slack_kept, rounded_up_holds}
+use Rattle.ufs_defs.specs.BlockLaws.{one_block_slack_kept, one_block_pieces_within, one_block_slack_within, rounded_up_one}
 use Rattle.ufs_defs.specs.declared.superblock.Superblock.{Superblock}
 use Rattle.ufs_defs.specs.declared.inode.Inode.{Inode}
 
@@ -90,15 +97,19 @@ ends_by (range ∷ ranges) end kept low =
     All-cons (λ range. range.at + range.len ≤ end) range ranges (omega (arith, below, kept.0))
         (ends_by ranges end kept.2 (λ byte covered. low byte (covers_behind range ranges byte covered)))
 
+here_or_behind : (here behind : Bool) (P : Type 0) → (here ≡ true → P) → (behind ≡ true → P) → (here || behind) ≡ true → P
+here_or_behind true behind P inside later is = inside refl
+here_or_behind false behind P inside later is = later is
+
 -- no byte from the end of some ranges on is covered
 covered_below : (ranges : List Range) (end byte : ℕ) → AreRangesWithin end ranges → covers ranges byte ≡ true → byte < end
 covered_below [] end byte within covered = absurd (false≢true covered)
 covered_below (range ∷ ranges) end byte within covered =
-    here_or_behind (in_range range byte) (λ here. grind (arith, nat_tests, All-head (λ range. range.at + range.len ≤ end) range ranges within)) covered
-  where
-    here_or_behind : (here : Bool) → (here ≡ true → byte < end) → (here || covers ranges byte) ≡ true → byte < end
-    here_or_behind true inside is = inside refl
-    here_or_behind false inside is = covered_below ranges end byte (All-tail (λ range. range.at + range.len ≤ end) range ranges within) is
+    let ends : range.at + range.len ≤ end = All-head (λ range. range.at + range.len ≤ end) range ranges within in
+    here_or_behind (in_range range byte) (covers ranges byte) (byte < end)
+        (λ here. grind (arith, nat_tests))
+        (λ later. covered_below ranges end byte (All-tail (λ range. range.at + range.len ≤ end) range ranges within) later)
+        covered
 
 -- the kept list of the bytes of some ranges lies where they lie
 pub kept_within : (list ranges : List Range) (end : ℕ) → IsRangeList list → ((byte : ℕ) → covers list byte ≡ covers ranges byte) → AreRangesWithin end ranges → AreRangesWithin end list
@@ -110,3 +121,75 @@ pub guard_is : (list ranges : List Range) (end : ℕ) → IsRangeList list → (
     → list ≡ longest_ranges (covers ranges) 0 end
 guard_is list ranges end kept agree within =
     same_as_longest_ranges (covers ranges) end list kept agree (kept_within list ranges end kept agree within)
+
+-- the kept list of no byte is empty
+pub none_is : (list : List Range) → IsRangeList list → ((byte : ℕ) → covers list byte ≡ covers [] byte) → list ≡ []
+none_is list kept agree = same_range_list list [] kept tt agree
+
+-- what holds of a result's value follows from what else holds of it
+pub ok_map : {T E : Type 0} {A B C : T → Type 0} (result : Result T E) → IfOk result A → IfOk result B → ((x : T) → A x → B x → C x) → IfOk result C
+ok_map (Ok x) first second follows = follows x first second
+ok_map (Err e) first second follows = tt
+
+-- the name and the number of an entry of the root
+pub entry_has_name : (entry : Entry) → is_first_entry entry ≡ true → is_first_name entry.name ≡ true
+unfolding is_first_entry
+entry_has_name entry first = (both_hold (is_first_name entry.name) (nat_lt 2 entry.inode) first).0
+
+pub entry_number : (entry : Entry) → is_first_entry entry ≡ true → nat_lt 2 entry.inode ≡ true
+unfolding is_first_entry
+entry_number entry first = (both_hold (is_first_name entry.name) (nat_lt 2 entry.inode) first).1
+
+-- the root stands before its file
+pub rising_files : (superblock : Superblock) (root : Inode) (named : NamedInode) → is_first_entry named.entry ≡ true → HaveRisingIds (files_of superblock root (named ∷ []))
+rising_files superblock root named first = (entry_number named.entry first, (tt, tt))
+
+pieces_within : (len size at : ℕ) → (0 < size → at + size ≤ len) → ArePiecesWithin len (one_block_pieces size at)
+pieces_within len zero at inside = All-nil (λ piece. piece.at + piece.len ≤ len)
+pieces_within len (suc size) at inside = one_block_pieces_within len (suc size) at (inside (omega arith))
+
+slack_within : (len fragment size at : ℕ) → 0 < fragment → (0 < size → at + rounded_up fragment size ≤ len) → AreRangesWithin len (one_block_slack fragment size at)
+slack_within len fragment zero at some inside = rw (rounded_up_none fragment some) (All-nil (λ range. range.at + range.len ≤ len))
+slack_within len fragment (suc size) at some inside = one_block_slack_within len fragment (suc size) at some (inside (omega arith))
+
+-- a content of at most one block in the image lies in it
+content_within : (size : ℕ) (superblock : Superblock) (inode : Inode) → is_first_superblock superblock ≡ true → is_small_file size superblock inode ≡ true
+    → ArePartsWithin size (one_block_content superblock inode ∷ [])
+unfolding one_block_content
+content_within size superblock inode first small =
+    let block = block_is_fragment superblock first in
+    let least = least_block superblock first in
+    let fits = small_fits_block size superblock inode small in
+    let inside : 0 < inode.size → first_block superblock inode + counted superblock.bsize ≤ size =
+        λ some. first_block_inside size superblock inode (small_has_first_block size superblock inode small some) in
+    let one : rounded_up (counted superblock.fsize) inode.size ≤ counted superblock.fsize =
+        rounded_up_one (counted superblock.fsize) inode.size (omega (arith, block, least)) (omega (arith, block, fits)) in
+    All-cons (λ part. ArePiecesWithin size part.pieces × AreRangesWithin size part.slack) (one_block_content superblock inode) []
+        ( pieces_within size inode.size (first_block superblock inode) (λ some. omega (arith, inside some, fits))
+        , slack_within size (counted superblock.fsize) inode.size (first_block superblock inode) (omega (arith, block, least)) (λ some. omega (arith, inside some, one, block))
+        )
+        (All-nil (λ part. ArePiecesWithin size part.pieces × AreRangesWithin size part.slack))
+
+-- all that the tree says lies in the image
+pub tree_within : (size : ℕ) (superblock : Superblock) (root : Inode) (named : NamedInode) (guard : List Range) → size ≤ 70368744177664 → is_first_superblock superblock ≡ true
+    → is_first_root size superblock root ≡ true → is_small_file size superblock named.inode ≡ true → AreRangesWithin size guard
+    → IsWithin (tree_of size guard (files_of superblock root (named ∷ [])))
+tree_within size superblock root named guard reach first rooted small guarded = record {
+  in_reach = reach;
+  volumes = All-cons (λ volume. volume.at + volume.len ≤ size) (whole_volume size) [] (omega arith) (All-nil (λ volume. volume.at + volume.len ≤ size));
+  unread = All-nil (λ range. range.at + range.len ≤ size);
+  files =
+      All-cons (λ file. ArePartsWithin size file.parts) (root_file superblock root) (named_file superblock named ∷ [])
+          (content_within size superblock root first (root_is_small size superblock root rooted))
+          (All-cons (λ file. ArePartsWithin size file.parts) (named_file superblock named) []
+              (content_within size superblock named.inode first small)
+              (All-nil (λ file. ArePartsWithin size file.parts)));
+  guard = guarded;
+}
+
+-- the parts of the tree
+pub tree_is : (size : ℕ) (volumes : List Volume) (unread guard : List Range) (files all : List FileEntry) → volumes ≡ whole_volume size ∷ [] → unread ≡ [] → files ≡ all
+    → tree_of size guard all ≡ record { image_len = size; volumes = volumes; unread = unread; files = files; guard = guard }
+tree_is size volumes unread guard files all whole none are =
+    let T : List Volume → List Range → List FileEntry → FoundTree = λ v u f. record { image_len = size; volumes = v; unread = u; files = f; guard = guard } in
+    ap (λ v. T v [] all) (sym whole) ∙ ap (λ u. T volumes u all) (sym none) ∙ ap (λ f. T volumes unread f) (sym are)

@@ -88,37 +88,37 @@ fn named_entry(alloc: Global, size: u64, superblock: &Superblock, named: &NamedI
         crate::proofs::Tree::guard_is
     )
 )]
-fn guard_from(alloc: Global, size: u64, superblock: &Superblock, root: &Inode, number: u32) -> Result<RangeList, NoMemory>
+fn guard_from(alloc: Global, size: u64, superblock: &Superblock, root: &Inode, named: &NamedInode<'_>) -> Result<RangeList, NoMemory>
     requires long { 66912 ≤ size }
     requires reach { size ≤ 70368744177664 }
     requires first { is_first_superblock superblock.now ≡ true }
     requires has_root { is_first_inode size superblock.now 2 ≡ true }
     requires root { is_first_root size superblock.now root.now ≡ true }
-    requires has_inode { is_first_inode size superblock.now number ≡ true }
+    requires has_inode { is_first_inode size superblock.now named.now.entry.inode ≡ true }
     ensures guard { IfOk result
-        (λ guard. guard ≡ longest_ranges (covers (first_ranges superblock.now root.now number)) 0 size) }
+        (λ guard. guard ≡ longest_ranges (covers (first_ranges superblock.now root.now named.now.entry.inode)) 0 size) }
     ensures within { IfOk result (AreRangesWithin size) }
 {
-    let ranges = looked_at(alloc, size, superblock, root, number)?;
+    let ranges = looked_at(alloc, size, superblock, root, named)?;
     RangeList::from_ranges(alloc, ranges)
 }
 
 /// The ranges of the image at which one looks for its files.
 #[tactic(auto, using(crate::proofs::Reading::root_has_first_block, crate::proofs::Reading::root_fits_block))]
-fn looked_at(alloc: Global, size: u64, superblock: &Superblock, root: &Inode, number: u32) -> Result<Vec<Range>, NoMemory>
+fn looked_at(alloc: Global, size: u64, superblock: &Superblock, root: &Inode, named: &NamedInode<'_>) -> Result<Vec<Range>, NoMemory>
     requires long { 66912 ≤ size }
     requires first { is_first_superblock superblock.now ≡ true }
     requires has_root { is_first_inode size superblock.now 2 ≡ true }
     requires root { is_first_root size superblock.now root.now ≡ true }
-    requires has_inode { is_first_inode size superblock.now number ≡ true }
-    ensures ranges { IfOk result (λ ranges. ranges.items ≡ first_ranges superblock.now root.now number) }
+    requires has_inode { is_first_inode size superblock.now named.now.entry.inode ≡ true }
+    ensures ranges { IfOk result (λ ranges. ranges.items ≡ first_ranges superblock.now root.now named.now.entry.inode) }
     ensures within { IfOk result (λ ranges. AreRangesWithin size ranges.items) }
 {
     let mut ranges = Vec::new(alloc);
     ranges.extend_from_slice(&FIXED_RANGES)?;
     ranges.push(range(inode_at(size, superblock, 2), 256))?;
     ranges.push(range(block_at(size, superblock, root), root.size))?;
-    ranges.push(range(inode_at(size, superblock, number), 256))?;
+    ranges.push(range(inode_at(size, superblock, named.entry.inode), 256))?;
     Ok(ranges)
 }
 
@@ -144,6 +144,42 @@ const FIXED_RANGES: [Range; 6] = [
     },
 ];
 
+/// No byte.
+#[tactic(auto, using(crate::proofs::Tree::none_is))]
+fn no_ranges(alloc: Global) -> Result<RangeList, NoMemory>
+    ensures { IfOk result (λ ranges. ranges ≡ []) }
+{
+    RangeList::from_ranges(alloc, Vec::new(alloc))
+}
+
+/// The root, and the file to which its entry leads.
+#[tactic(auto, using(crate::proofs::Tree::entry_has_name))]
+fn files_from(alloc: Global, size: u64, superblock: &Superblock, root: &Inode, named: &NamedInode<'_>) -> Result<Files, NoMemory>
+    requires reach { size ≤ 70368744177664 }
+    requires first { is_first_superblock superblock.now ≡ true }
+    requires root { is_first_root size superblock.now root.now ≡ true }
+    requires name { is_first_entry named.now.entry ≡ true }
+    requires small { is_small_file size superblock.now named.now.inode ≡ true }
+    ensures { IfOk result (λ files. files ≡ files_of superblock.now root.now (named.now ∷ [])) }
+{
+    let root_file = root_entry(alloc, size, superblock, root)?;
+    let named_file = named_entry(alloc, size, superblock, named)?;
+    Ok(Files::from_vec(vec![in alloc; root_file, named_file]?))
+}
+
+/// The whole image as a volume.
+fn volumes_of(alloc: Global, size: u64) -> Result<Volumes, NoMemory>
+    ensures { IfOk result (λ volumes. volumes ≡ whole_volume size ∷ []) }
+{
+    let whole = Volume {
+        number: 0,
+        kind: FsKind::Ufs2,
+        at: 0,
+        len: size,
+    };
+    Ok(Volumes::from_vec(vec![in alloc; whole]?))
+}
+
 /// The tree of an image in which this was found.
 pub(super) fn tree_from(alloc: Global, size: u64, superblock: &Superblock, root: &Inode, named: &NamedInode<'_>) -> Result<Tree, NoMemory>
     requires long { 66912 ≤ size }
@@ -158,26 +194,11 @@ pub(super) fn tree_from(alloc: Global, size: u64, superblock: &Superblock, root:
         (longest_ranges (covers (first_ranges superblock.now root.now named.now.entry.inode)) 0 size)
         (files_of superblock.now root.now (named.now ∷ []))) }
 {
-    let root_file = root_entry(alloc, size, superblock, root)?;
-    let named_file = named_entry(alloc, size, superblock, named)?;
     Ok(Tree {
         image_len: size,
         volumes: volumes_of(alloc, size)?,
-        unread: RangeList::from_ranges(alloc, Vec::new(alloc))?,
-        files: Files::from_vec(vec![in alloc; root_file, named_file]?),
-        guard: guard_from(alloc, size, superblock, root, named.entry.inode)?,
+        unread: no_ranges(alloc)?,
+        files: files_from(alloc, size, superblock, root, named)?,
+        guard: guard_from(alloc, size, superblock, root, named)?,
     })
-}
-
-/// The whole image as a volume.
-fn volumes_of(alloc: Global, size: u64) -> Result<Volumes, NoMemory>
-    ensures { IfOk result (λ volumes. volumes ≡ whole_volume size ∷ []) }
-{
-    let whole = Volume {
-        number: 0,
-        kind: FsKind::Ufs2,
-        at: 0,
-        len: size,
-    };
-    Ok(Volumes::from_vec(vec![in alloc; whole]?))
 }
