@@ -27,12 +27,16 @@ first_ranges superblock root number =
     ∷ record { at = inode_place superblock number; len = 256 }
     ∷ [])
 
--- what was found in an image of the first form: its superblock, its root, the one entry of that, and the inode to which
--- the entry leads
-pub record IsFound (image : List ℕ) (size : ℕ) (superblock : Superblock) (root : Inode) (named : NamedInode) : Type 0 where
+-- an image that is a UFS2 with this superblock
+pub record IsVolume (image : List ℕ) (size : ℕ) (superblock : Superblock) : Type 0 where
   pub long : is_first_length size ≡ true
   pub kind : is_first_kind (fitting_kind (probes_of image)) ≡ true
   pub read_superblock : run image first_superblock ≡ Ok superblock
+
+-- what was found in an image of the first form: its superblock, its root, the one entry of that, and the inode to which
+-- the entry leads
+pub record IsFound (image : List ℕ) (size : ℕ) (superblock : Superblock) (root : Inode) (named : NamedInode) : Type 0 where
+  pub volume : IsVolume image size superblock
   pub read_root : run image (first_root size superblock) ≡ Ok root
   pub read_entries : run image (first_entries superblock root) ≡ Ok (named.entry ∷ [])
   pub read_file : run image (first_file size superblock named.entry) ≡ Ok named
@@ -44,7 +48,7 @@ pub record IsFound (image : List ℕ) (size : ℕ) (superblock : Superblock) (ro
 pub found_files : (image : List ℕ) (size : ℕ) (superblock : Superblock) (root : Inode) (named : NamedInode) → IsFound image size superblock root named
     → run image (first_files size) ≡ Ok (files_of superblock root (named ∷ []))
 found_files image size superblock root named found =
-    run_first_files image size superblock found.long found.kind found.read_superblock
+    run_first_files image size superblock found.volume.long found.volume.kind found.volume.read_superblock
     ∙ run_files_below image size superblock root named.entry named found.read_root found.read_entries found.read_file
 
 -- and these the ranges
@@ -54,7 +58,7 @@ found_ranges image size superblock root named found =
     let of_root = visits_first_root image size superblock ∙ visits_first_inode image size superblock 2 found.has_root in
     let of_entries = visits_first_entries image superblock root in
     let of_file = visits_first_file image size superblock named.entry found.has_name ∙ visits_first_inode image size superblock named.entry.inode found.has_inode in
-    visits_first_files image size superblock found.long found.kind found.read_superblock
+    visits_first_files image size superblock found.volume.long found.volume.kind found.volume.read_superblock
     ∙ ap (λ ranges. probe_places ++ (record { at = 65536; len = 1376 } ∷ ranges))
     (visits_files_below image size superblock root named.entry named found.read_root found.read_entries found.read_file
     ∙ ap (λ ranges. ranges ++ (visits image (first_entries superblock root) ++ visits image (first_file size superblock named.entry))) of_root
@@ -77,12 +81,6 @@ unfolding first_tree
 no_tree image size same none =
     ap (λ len. with_value (tree_of (length image) (guard_of image)) (run image (first_files len))) same
     ∙ ap (λ files. with_value (tree_of (length image) (guard_of image)) files) none
-
--- an image that is a UFS2 with this superblock
-pub record IsVolume (image : List ℕ) (size : ℕ) (superblock : Superblock) : Type 0 where
-  pub long : is_first_length size ≡ true
-  pub kind : is_first_kind (fitting_kind (probes_of image)) ≡ true
-  pub read_superblock : run image first_superblock ≡ Ok superblock
 
 -- the one entry of a list that has one
 abbrev pub the_one : Result (List Entry) FirstFault → Result Entry FirstFault
