@@ -2,4 +2,5 @@ pub mod Lines
 pub mod FirstLines
 pub mod Reading
 pub mod Told
+pub mod Exits
 pub mod Tree
