@@ -1,3 +1,7 @@
 pub mod Lines
 pub mod FirstLines
 pub mod Plans
+pub mod Reading
+pub mod Told
+pub mod Exits
+pub mod Tree

@@ -1,7 +1,10 @@
 -- What the stages of a command give, beside what the definitions say.
-use Rattle.std.specs.Prelude.{◌≡◌, Result, Ok, Err}
+use Rattle.std.specs.Prelude.{◌≡◌, ℕ, ◌⊎◌, Result, Ok, Err, List, Vec}
 use Rattle.rx_tree.specs.FoundTree.{FoundTree}
-use Rattle.volume_defs.specs.FirstForm.{FirstFault, NotFirstForm}
+use Rattle.image_defs.specs.Runs.{checked}
+use Rattle.volume_defs.specs.Kind.{fitting_kind}
+use Rattle.volume_defs.specs.FirstForm.{FirstFault, NotFirstForm, is_first_kind}
+use Rattle.volume_defs.specs.FirstReader.{probes_of}
 use Rattle.redact_cmd.specs.declared.status.Status.{Status}
 use Rattle.redact_cmd.specs.declared.status.Status.TheVariants.{Done, Usage, DeviceFault, SourceFault, SinkFault, NoMemory, NotBuilt}
 
@@ -30,6 +33,23 @@ abbrev pub Gives : {X : Type 0} → Result X Status → Result X FirstFault → 
 Gives (Ok value) found = found ≡ Ok value
 Gives (Err status) found = Refuses status found
 
+-- whether an image is a UFS2
+abbrev pub first_kind_of : List ℕ → Result (Unit {0}) FirstFault
+first_kind_of image = checked (is_first_kind (fitting_kind (probes_of image))) NotFirstForm
+
 -- the tree that is read from an image, where the image gives this
 abbrev pub GivesTree : Result FoundTree Status → Result FoundTree FirstFault → Type 0
 GivesTree result found = Gives result found
+
+-- a refusal that isn't a fault of the image
+abbrev pub IsOwnRefusal : Status → Type 0
+IsOwnRefusal status = (status ≡ NotBuilt) ⊎ (status ≡ NoMemory)
+
+-- the items that a stage reads, where the image gives these
+abbrev pub GivesItems : {X A : Type 0} → Result (Vec X A) Status → Result (List X) FirstFault → Type 0
+GivesItems (Ok items) found = found ≡ Ok items.items
+GivesItems (Err status) found = Refuses status found
+
+-- a refusal for want of the image's bytes or of memory
+abbrev pub IsReadFailure : Status → Type 0
+IsReadFailure status = (status ≡ DeviceFault) ⊎ (status ≡ NoMemory)

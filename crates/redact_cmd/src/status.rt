@@ -3,6 +3,9 @@ ghost use Rattle.std.specs.Prelude.{◌≡◌, ◌≤◌, OnOk, OnErr};
 ghost use Rattle.disk_defs.specs.Count.{Rose};
 ghost use Rattle.disk_defs.specs.Stream.{taken_with, TookPrefixOf};
 ghost use Rattle.redact_cmd.specs.Status.{code_of, status_line};
+ghost use Rattle.redact_cmd.specs.declared.status.Status.TheVariants.{NoMemory};
+
+use std::alloc::{AllocError, AllocFailed};
 
 use arrayvec::ArrayString;
 use rx_store::{Fault, Sink, write_all};
@@ -40,6 +43,22 @@ impl Status {
             Status::NoMemory => 14,
             Status::NotBuilt => 15,
         }
+    }
+}
+
+impl From<AllocError> for Status {
+    ghost from_gives = { λ _ status. status ≡ NoMemory };
+
+    fn from(_error: AllocError) -> Status {
+        Status::NoMemory
+    }
+}
+
+impl<T: Drop> From<AllocFailed<T>> for Status {
+    ghost from_gives = { λ _ status. status ≡ NoMemory };
+
+    fn from(_error: AllocFailed<T>) -> Status {
+        Status::NoMemory
     }
 }
 

@@ -10,3 +10,4 @@ pub mod FirstInvariants
 pub mod FirstLooks
 pub mod FirstTreeLaw
 pub mod GuardT
+pub mod FirstRanges

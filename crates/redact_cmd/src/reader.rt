@@ -1,0 +1,111 @@
+//! Reads an image of the first form.
+ghost use Rattle.std.specs.Prelude.{◌≡◌, ◌%◌, ◌≤◌, true, length, IfErr, IfSome, IsErrOf, ◌≢◌, Err};
+ghost use Rattle.disk_defs.specs.Count.{Rose};
+ghost use Rattle.disk_defs.specs.Disk.{size_of, told_image};
+ghost use Rattle.disk_defs.specs.declared.Area.TheVariants.{Image};
+ghost use Rattle.ufs_defs.specs.Directory.{entries_of};
+ghost use Rattle.volume_defs.specs.FirstForm.{is_first_length, is_first_superblock, listed};
+ghost use Rattle.volume_defs.specs.FirstTree.{first_tree};
+ghost use Rattle.volume_defs.specs.FirstRanges.{IsVolume, the_one};
+ghost use Rattle.redact_cmd.specs.Stages.{Gives, GivesTree, IsImageRefusal, IsOwnRefusal};
+
+mod content;
+mod directory;
+mod found;
+mod inode;
+mod kind;
+mod read;
+mod superblock;
+mod tree;
+
+use std::alloc::Global;
+
+use rx_store::{Area, Store};
+use rx_tree::Tree;
+use ufs_defs::superblock::Superblock;
+
+use crate::status::Status;
+use directory::{Entry, leading_entries};
+use found::{read_content, read_file, read_root, read_superblock};
+use kind::read_kind;
+use tree::tree_from;
+
+/// The tree of the image, where that has the first form.
+pub(crate) fn read_tree<S: Store>(alloc: Global, store: &mut S) -> Result<Tree, Status>
+    ensures told { IfSome (told_image (S.state store.old)) (λ image. GivesTree result (first_tree image)) }
+    ensures refusals { IfErr result IsImageRefusal }
+    ensures same { S.state store.new ≡ S.state store.old }
+    ensures counts { S.faults store.old ≤ S.faults store.new }
+    ensures cause { IsErrOf result Status.DeviceFault → Rose (S.faults store.old) (S.faults store.new) }
+    ensures calm { result ≢ Err Status.DeviceFault → S.faults store.new ≡ S.faults store.old }
+{
+    match store.len(Area::Image) {
+        Ok(size) => read_image(alloc, store, size),
+        Err(_) => Err(Status::DeviceFault),
+    }
+}
+
+/// The tree of an image of so many bytes.
+fn read_image<S: Store>(alloc: Global, store: &mut S, size: u64) -> Result<Tree, Status>
+    requires { size ≡ size_of Image (S.state store.old) }
+    ensures told { IfSome (told_image (S.state store.old))
+        (λ image. length image ≡ size → Gives result (first_tree image)) }
+    ensures refusals { IfErr result IsImageRefusal }
+    ensures same { S.state store.new ≡ S.state store.old }
+    ensures counts { S.faults store.old ≤ S.faults store.new }
+    ensures cause { IsErrOf result Status.DeviceFault → Rose (S.faults store.old) (S.faults store.new) }
+    ensures calm { result ≢ Err Status.DeviceFault → S.faults store.new ≡ S.faults store.old }
+{
+    if !has_first_length(size) {
+        return Err(Status::NotBuilt);
+    }
+    read_kind(store)?;
+    let superblock = read_superblock(store)?;
+    read_volume(alloc, store, size, &superblock)
+}
+
+/// Whether the image has at most 2^46 bytes, and the magic of a UFS2 has place in it.
+fn has_first_length(size: u64) -> bool
+    ensures { result ≡ is_first_length size }
+{
+    66_912 <= size && size <= 70_368_744_177_664
+}
+
+/// The tree of an image that is a UFS2 with this superblock.
+fn read_volume<S: Store>(
+    alloc: Global,
+    store: &mut S,
+    size: u64,
+    superblock: &Superblock,
+) -> Result<Tree, Status>
+    requires size { size ≡ size_of Image (S.state store.old) }
+    requires long { is_first_length size ≡ true }
+    requires first { is_first_superblock superblock.now ≡ true }
+    ensures told { IfSome (told_image (S.state store.old)) (λ image. length image ≡ size
+        → IsVolume image size superblock.now → Gives result (first_tree image)) }
+    ensures refusals { IfErr result IsImageRefusal }
+    ensures same { S.state store.new ≡ S.state store.old }
+    ensures counts { S.faults store.old ≤ S.faults store.new }
+    ensures cause { IsErrOf result Status.DeviceFault → Rose (S.faults store.old) (S.faults store.new) }
+    ensures calm { result ≢ Err Status.DeviceFault → S.faults store.new ≡ S.faults store.old }
+{
+    let root = read_root(store, size, superblock)?;
+    let content = read_content(alloc, store, size, superblock, &root)?;
+    let entry = only_entry(alloc, content.as_slice())?;
+    let named = read_file(store, size, superblock, entry)?;
+    Ok(tree_from(alloc, size, superblock, &root, &named)?)
+}
+
+/// The one entry that leads to a file.
+fn only_entry<'a>(alloc: Global, content: &'a [u8]) -> Result<Entry<'a>, Status>
+    requires { length content.now % 512 ≡ 0 }
+    ensures entry { Gives result (the_one (listed (entries_of content.now))) }
+    ensures refusals { IfErr result IsOwnRefusal }
+{
+    let mut entries = leading_entries(alloc, content)?;
+    let last = entries.pop();
+    match last {
+        Some(entry) if entries.is_empty() => Ok(entry),
+        _ => Err(Status::NotBuilt),
+    }
+}

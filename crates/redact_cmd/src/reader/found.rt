@@ -1,0 +1,121 @@
+//! What a reader finds in an image of the first form, step by step.
+ghost use Rattle.std.specs.Prelude.{◌≡◌, ◌≤◌, true, length, IfOk, OnOk, IfErr, IfSome, IsErrOf, ◌≢◌, Err};
+ghost use Rattle.disk_defs.specs.Count.{Rose};
+ghost use Rattle.disk_defs.specs.Disk.{size_of, told_image};
+ghost use Rattle.disk_defs.specs.declared.Area.TheVariants.{Image};
+ghost use Rattle.image_defs.specs.Ask.{run};
+ghost use Rattle.image_defs.specs.Bytes.{part};
+ghost use Rattle.ufs_defs.specs.Blocks.{first_block};
+ghost use Rattle.volume_defs.specs.FirstForm.{is_first_superblock, is_first_inode, is_first_root, is_first_entry, is_first_file, is_small_file, first_superblock, first_inode, first_root, first_file};
+ghost use Rattle.redact_cmd.specs.Stages.{Gives, IsImageRefusal, IsReadFailure};
+
+use std::alloc::Global;
+
+use rx_store::Store;
+use ufs_defs::inode::Inode;
+use ufs_defs::superblock::Superblock;
+
+use super::directory::{Entry, NamedInode, may_be_named};
+use super::inode::{block_at, has_one_block, inode_at, inode_within, inode_from, may_be_file, may_be_root};
+use super::read::{read_bytes, read_part};
+use super::superblock::{is_first, superblock_from};
+use crate::status::Status;
+
+/// The superblock of the image.
+pub(super) fn read_superblock<S: Store>(store: &mut S) -> Result<Superblock, Status>
+    requires { 66912 ≤ size_of Image (S.state store.old) }
+    ensures told { IfSome (told_image (S.state store.old)) (λ image. Gives result (run image first_superblock)) }
+    ensures first { IfOk result (λ superblock. is_first_superblock superblock ≡ true) }
+    ensures same { S.state store.new ≡ S.state store.old }
+    ensures refusals { IfErr result IsImageRefusal }
+    ensures counts { S.faults store.old ≤ S.faults store.new }
+    ensures cause { IsErrOf result Status.DeviceFault → Rose (S.faults store.old) (S.faults store.new) }
+    ensures calm { result ≢ Err Status.DeviceFault → S.faults store.new ≡ S.faults store.old }
+{
+    let bytes: [u8; 1376] = read_bytes(store, 65_536)?;
+    let superblock = superblock_from(&bytes);
+    if is_first(&superblock) { Ok(superblock) } else { Err(Status::NotBuilt) }
+}
+
+/// The inode of a number.
+fn read_inode<S: Store>(store: &mut S, size: u64, superblock: &Superblock, number: u32) -> Result<Inode, Status>
+    requires size { size ≡ size_of Image (S.state store.old) }
+    requires first { is_first_superblock superblock.now ≡ true }
+    ensures told { IfSome (told_image (S.state store.old)) (λ image. Gives result (run image (first_inode size superblock.now number))) }
+    ensures within { OnOk result (is_first_inode size superblock.now number ≡ true) }
+    ensures same { S.state store.new ≡ S.state store.old }
+    ensures refusals { IfErr result IsImageRefusal }
+    ensures counts { S.faults store.old ≤ S.faults store.new }
+    ensures cause { IsErrOf result Status.DeviceFault → Rose (S.faults store.old) (S.faults store.new) }
+    ensures calm { result ≢ Err Status.DeviceFault → S.faults store.new ≡ S.faults store.old }
+{
+    if !inode_within(size, superblock, number) {
+        return Err(Status::NotBuilt);
+    }
+    let bytes: [u8; 256] = read_bytes(store, inode_at(size, superblock, number))?;
+    Ok(inode_from(&bytes))
+}
+
+/// The root's inode.
+pub(super) fn read_root<S: Store>(store: &mut S, size: u64, superblock: &Superblock) -> Result<Inode, Status>
+    requires size { size ≡ size_of Image (S.state store.old) }
+    requires first { is_first_superblock superblock.now ≡ true }
+    ensures told { IfSome (told_image (S.state store.old)) (λ image. Gives result (run image (first_root size superblock.now))) }
+    ensures within { OnOk result (is_first_inode size superblock.now 2 ≡ true) }
+    ensures root { IfOk result (λ root. is_first_root size superblock.now root ≡ true) }
+    ensures same { S.state store.new ≡ S.state store.old }
+    ensures refusals { IfErr result IsImageRefusal }
+    ensures counts { S.faults store.old ≤ S.faults store.new }
+    ensures cause { IsErrOf result Status.DeviceFault → Rose (S.faults store.old) (S.faults store.new) }
+    ensures calm { result ≢ Err Status.DeviceFault → S.faults store.new ≡ S.faults store.old }
+{
+    let root = read_inode(store, size, superblock, 2)?;
+    if may_be_root(size, superblock, &root) { Ok(root) } else { Err(Status::NotBuilt) }
+}
+
+/// The content of the root.
+#[tactic(auto, using(crate::proofs::Reading::root_has_first_block, crate::proofs::Reading::root_fits_block))]
+pub(super) fn read_content<S: Store>(alloc: Global, store: &mut S, size: u64, superblock: &Superblock, root: &Inode) -> Result<Vec<u8>, Status>
+    requires size { size ≡ size_of Image (S.state store.old) }
+    requires root { is_first_root size superblock.now root.now ≡ true }
+    ensures told { IfOk result (λ content. IfSome (told_image (S.state store.old)) (λ image. content.items ≡ part image (first_block superblock.now root.now) root.now.size)) }
+    ensures len { IfOk result (λ content. length content.items ≡ root.now.size) }
+    ensures same { S.state store.new ≡ S.state store.old }
+    ensures refusals { IfErr result IsReadFailure }
+    ensures counts { S.faults store.old ≤ S.faults store.new }
+    ensures cause { IsErrOf result Status.DeviceFault → Rose (S.faults store.old) (S.faults store.new) }
+    ensures calm { result ≢ Err Status.DeviceFault → S.faults store.new ≡ S.faults store.old }
+{
+    let mut content = vec![in alloc; 0; root.size as usize]?;
+    read_part(store, block_at(size, superblock, root), &mut content)?;
+    Ok(content)
+}
+
+/// The file to which an entry leads.
+pub(super) fn read_file<'a, S: Store>(store: &mut S, size: u64, superblock: &Superblock, leading: Entry<'a>) -> Result<NamedInode<'a>, Status>
+    requires size { size ≡ size_of Image (S.state store.old) }
+    requires first { is_first_superblock superblock.now ≡ true }
+    ensures told { IfSome (told_image (S.state store.old)) (λ image. Gives result (run image (first_file size superblock.now leading.entry))) }
+    ensures entry { IfOk result (λ named. named.entry ≡ leading.entry) }
+    ensures named { OnOk result (is_first_entry leading.entry ≡ true) }
+    ensures within { OnOk result (is_first_inode size superblock.now leading.entry.inode ≡ true) }
+    ensures file { IfOk result (λ named. is_first_file superblock.now named.inode ≡ true) }
+    ensures small { IfOk result (λ named. is_small_file size superblock.now named.inode ≡ true) }
+    ensures same { S.state store.new ≡ S.state store.old }
+    ensures refusals { IfErr result IsImageRefusal }
+    ensures counts { S.faults store.old ≤ S.faults store.new }
+    ensures cause { IsErrOf result Status.DeviceFault → Rose (S.faults store.old) (S.faults store.new) }
+    ensures calm { result ≢ Err Status.DeviceFault → S.faults store.new ≡ S.faults store.old }
+{
+    if !may_be_named(&leading) {
+        return Err(Status::NotBuilt);
+    }
+    let inode = read_inode(store, size, superblock, leading.inode)?;
+    if !may_be_file(superblock, &inode) {
+        return Err(Status::NotBuilt);
+    }
+    if !has_one_block(size, superblock, &inode) {
+        return Err(Status::NotBuilt);
+    }
+    Ok(NamedInode { entry: leading, inode })
+}
