@@ -1,5 +1,5 @@
 -- The first form of a rule text: each line has one name and two digits, or none.
-use Rattle.std.proofs.Common.{◌≡◌, ◌≢◌, ℕ, ◌+◌, ◌-◌, ◌*◌, ◌<◌, ◌≤◌, nat_eq, true, false, codes, List, [], ◌∷◌, ◌++◌, length, take, drop, refl, sym, ap, subst, ◌∙◌, append_assoc, arith, length-append, slice_index_or, length-take, length-drop, Option, Some, None, IfNone, ◌⊎◌, inl, inr, ⊎_elim, append-nil, ◌&&◌, cond}
+use Rattle.std.proofs.Common.{◌≡◌, ℕ, ◌+◌, ◌-◌, ◌*◌, ◌<◌, nat_eq, true, false, codes, List, [], ◌∷◌, ◌++◌, length, take, drop, refl, sym, ap, subst, ◌∙◌, append_assoc, arith, length-append, slice_index_or, length-drop, Option, Some, None, IfNone, ◌⊎◌, inl, inr, ⊎_elim, append-nil, ◌&&◌, cond}
 use Rattle.std.proofs.Math.Seq.{take-append_seam, drop-append_seam}
 use Rattle.std.proofs.lemmas.List.{take-append-drop}
 use Rattle.std.proofs.lemmas.Bool.{false≢true, eqb-true}
@@ -26,7 +26,7 @@ first_line-opening name high low =
 pub other_opening : (line : List ℕ) → pointwise nat_eq (take 10 line) opening ≡ false → IsOtherLine line
 other_opening line test name high low is =
     other_text (take 10 line) opening (sym test)
-        (ap (take 10) (is ∙ first_line-opening name high low) ∙ take-append_seam opening (rest_of name high low))
+    (ap (take 10) (is ∙ first_line-opening name high low) ∙ take-append_seam opening (rest_of name high low))
 
 rest-is : (line : List ℕ) (name : List ℕ) (high low : ℕ) → line ≡ first_line name high low → drop 10 line ≡ rest_of name high low
 rest-is line name high low is = ap (drop 10) (is ∙ first_line-opening name high low) ∙ drop-append_seam opening (rest_of name high low)
@@ -51,7 +51,7 @@ other_middle line quoted head at front test name high low is =
     let whole = front ∙ head-is line quoted name high low at is in
     let long : length head - 9 ≡ length name = omega (arith, ap length whole, length-append name middle) in
     other_text (drop (length head - 9) head) middle (sym test)
-        (ap (λ n. drop n head) long ∙ ap (drop (length name)) whole ∙ drop-append_seam name middle)
+    (ap (λ n. drop n head) long ∙ ap (drop (length name)) whole ∙ drop-append_seam name middle)
 
 two_digits : (digits : List ℕ) → length digits ≡ 2 → digits ≡ slice_index_or digits 0 0 ∷ slice_index_or digits 1 0 ∷ []
 two_digits [] two = absurd (omega arith)
@@ -68,12 +68,12 @@ line-parts line quoted head digits name opens at front back two tested named =
     let high = slice_index_or digits 0 0 in
     let low = slice_index_or digits 1 0 in
     let line_is = sym (take-append-drop 10 line) ∙ ap (λ text. text ++ drop 10 line) (same_text (take 10 line) opening (sym opens))
-        ∙ ap (λ text. opening ++ text) (sym at) in
+    ∙ ap (λ text. opening ++ text) (sym at) in
     let head_is = sym (take-append-drop (length head - 9) head) ∙ ap (λ text. text ++ drop (length head - 9) head) (sym named)
-        ∙ ap (λ text. name ++ text) (same_text (drop (length head - 9) head) middle (sym tested)) in
+    ∙ ap (λ text. name ++ text) (same_text (drop (length head - 9) head) middle (sym tested)) in
     let pair : length digits ≡ 2 = omega (arith, ap length back, length-drop (length quoted - 2) quoted) in
     let quoted_is = sym (take-append-drop (length quoted - 2) quoted) ∙ ap (λ text. text ++ drop (length quoted - 2) quoted) (sym front ∙ head_is)
-        ∙ ap (λ text. (name ++ middle) ++ text) (sym back ∙ two_digits digits pair) in
+    ∙ ap (λ text. (name ++ middle) ++ text) (sym back ∙ two_digits digits pair) in
     line_is ∙ ap (λ text. opening ++ text) quoted_is ∙ sym (first_line-opening name high low)
 
 -- what holds holds where there is nothing
@@ -99,13 +99,13 @@ front_part text x =
 without_end-other : (text : List ℕ) (x : ℕ) → nat_eq x 10 ≡ false → without_end (text ++ x ∷ []) ≡ text ++ x ∷ []
 without_end-other text x other =
     ap (λ b. cond b (take (length (text ++ x ∷ []) - 1) (text ++ x ∷ [])) (text ++ x ∷ []))
-        (ap (λ last. pointwise nat_eq last (10 ∷ [])) (last_part text x) ∙ ap (λ b. b && true) other)
+    (ap (λ last. pointwise nat_eq last (10 ∷ [])) (last_part text x) ∙ ap (λ b. b && true) other)
 
 without_end-feed : (text : List ℕ) → without_end (text ++ 10 ∷ []) ≡ text
 without_end-feed text =
     ap (λ b. cond b (take (length (text ++ 10 ∷ []) - 1) (text ++ 10 ∷ [])) (text ++ 10 ∷ []))
-        (ap (λ last. pointwise nat_eq last (10 ∷ [])) (last_part text 10))
-        ∙ front_part text 10
+    (ap (λ last. pointwise nat_eq last (10 ∷ [])) (last_part text 10))
+    ∙ front_part text 10
 
 -- a digit is no line feed
 digit-other : (digit value : ℕ) → hex_value digit ≡ Some value → nat_eq digit 10 ≡ false
@@ -126,26 +126,26 @@ line-of text name fill h =
     let line = first_line name h.high h.low in
     let last = first_line-last name h.high h.low in
     ⊎_elim
-        (λ e.
-            ap without_end (h.whole ∙ ap (λ ending. line ++ ending) e ∙ append-nil line ∙ last)
-                ∙ without_end-other (without_last name h.high) h.low (digit-other h.low h.low_value h.low_is) ∙ sym last)
-        (λ e. ap without_end (h.whole ∙ ap (λ ending. line ++ ending) e) ∙ without_end-feed line)
-        h.ends
+    (λ e.
+    ap without_end (h.whole ∙ ap (λ ending. line ++ ending) e ∙ append-nil line ∙ last)
+    ∙ without_end-other (without_last name h.high) h.low (digit-other h.low h.low_value h.low_is) ∙ sym last)
+    (λ e. ap without_end (h.whole ∙ ap (λ ending. line ++ ending) e) ∙ without_end-feed line)
+    h.ends
 
 -- one line has one name and one pair of digits
 pub same_parts : (a b : List ℕ) (high low other last : ℕ) → first_line a high low ≡ first_line b other last → (a ≡ b) × (high ≡ other) × (low ≡ last)
 same_parts a b high low other last is =
     let rests = sym (rest-is (first_line a high low) a high low refl) ∙ rest-is (first_line a high low) b other last is in
     let long : length (a ++ middle) ≡ length (b ++ middle) =
-        omega (arith, ap length rests, length-append (a ++ middle) (high ∷ low ∷ []), length-append (b ++ middle) (other ∷ last ∷ [])) in
+    omega (arith, ap length rests, length-append (a ++ middle) (high ∷ low ∷ []), length-append (b ++ middle) (other ∷ last ∷ [])) in
     let fronts : a ++ middle ≡ b ++ middle = sym (take-append_seam (a ++ middle) (high ∷ low ∷ [])) ∙ ap (take (length (a ++ middle))) rests
-        ∙ ap (λ n. take n (rest_of b other last)) long ∙ take-append_seam (b ++ middle) (other ∷ last ∷ []) in
+    ∙ ap (λ n. take n (rest_of b other last)) long ∙ take-append_seam (b ++ middle) (other ∷ last ∷ []) in
     let backs : high ∷ low ∷ [] ≡ other ∷ last ∷ [] = sym (drop-append_seam (a ++ middle) (high ∷ low ∷ [])) ∙ ap (drop (length (a ++ middle))) rests
-        ∙ ap (λ n. drop n (rest_of b other last)) long ∙ drop-append_seam (b ++ middle) (other ∷ last ∷ []) in
-    let names : length a ≡ length b = omega (arith, long, length-append a middle, length-append b middle) in
-    ( sym (take-append_seam a middle) ∙ ap (take (length a)) fronts ∙ ap (λ n. take n (b ++ middle)) names ∙ take-append_seam b middle
-    , (cc)
-    , (cc)
+    ∙ ap (λ n. drop n (rest_of b other last)) long ∙ drop-append_seam (b ++ middle) (other ∷ last ∷ []) in
+    let names : length a ≡ length b = omega (arith, long, length-append a middle, length-append b middle) in (
+      sym (take-append_seam a middle) ∙ ap (take (length a)) fronts ∙ ap (λ n. take n (b ++ middle)) names ∙ take-append_seam b middle,
+      (cc),
+      (cc),
     )
 
 -- a text is its line and what ends it
@@ -154,10 +154,10 @@ parted text =
     let front = take (length text - 1) text in
     let back = drop (length text - 1) text in
     elim (pointwise nat_eq back (10 ∷ [])) as
-        (λ b. pointwise nat_eq back (10 ∷ []) ≡ b → (ending : List ℕ) × EndsLine ending × (text ≡ cond b front text ++ ending))
-        [ true ↦ λ same. (10 ∷ [], inr refl, sym (take-append-drop (length text - 1) text) ∙ ap (λ t. front ++ t) (same_text back (10 ∷ []) (sym same)))
-        | false ↦ λ other. ([], inl refl, sym (append-nil text))
-        ] refl
+    (λ b. pointwise nat_eq back (10 ∷ []) ≡ b → (ending : List ℕ) × EndsLine ending × (text ≡ cond b front text ++ ending)) [
+      | true ↦ λ same. (10 ∷ [], inr refl, sym (take-append-drop (length text - 1) text) ∙ ap (λ t. front ++ t) (same_text back (10 ∷ []) (sym same)))
+      | false ↦ λ other. ([], inl refl, sym (append-nil text))
+    ] refl
 
 -- a text whose line isn't of the form isn't either
 pub other_text-of_line : (text : List ℕ) → IsOtherLine (without_end text) → (name : List ℕ) (fill : ℕ) → ¬ (IsFirstLine text name fill)

@@ -1,5 +1,5 @@
 -- What the reading of an image rests on.
-use Rattle.std.proofs.Common.{◌≡◌, ℕ, zero, suc, ◌+◌, ◌<◌, ◌≤◌, Bool, true, false, ◌&&◌, ◌||◌, ◌==◌, ◌%◌, nat_le, nat_lt, ◌*◌, is_none, pos, int_lt, if◌then◌else◌, Option, Some, None, Result, Ok, Err, List, [], ◌∷◌, ◌++◌, length, take, drop, slice_index, refl, sym, ap, subst, ◌∙◌, append-nil, one-mul, arith}
+use Rattle.std.proofs.Common.{◌≡◌, ℕ, zero, suc, ◌+◌, ◌<◌, ◌≤◌, Bool, true, false, ◌&&◌, ◌||◌, ◌==◌, ◌%◌, nat_le, nat_lt, ◌*◌, is_none, pos, int_lt, if◌then◌else◌, Option, Some, None, Ok, Err, List, [], ◌∷◌, ◌++◌, length, take, drop, slice_index, refl, sym, ap, subst, ◌∙◌, append-nil, one-mul, arith}
 use Rattle.std.proofs.lemmas.Bool.{false≢true, leb-true, le-leb}
 use Rattle.std.proofs.lemmas.Bool.Decides.{Decides-eqb}
 use Rattle.std.proofs.lemmas.Grind.{common_steps}
@@ -98,6 +98,7 @@ first_is_sound superblock first = is_sound superblock (none_is (wrong_field supe
     both : (a b : Bool) → (a && b) ≡ true → a ≡ true
     both true b is = refl
     both false b is = is
+
     none_is : (wrong : Option ℕ) → is_none wrong ≡ true → wrong ≡ None
     none_is None is = refl
     none_is (Some place) is = absurd cc
@@ -168,7 +169,7 @@ pub small_has_first_block : (size : ℕ) (superblock : Superblock) (inode : Inod
 unfolding is_small_file
 small_has_first_block size superblock inode small some =
     other (inode.size == 0) (has_first_block size superblock inode) (both_hold (nat_le inode.size (counted superblock.bsize)) (inode.size == 0 || has_first_block size superblock inode) small).1
-        (λ none. absurd (omega (arith, (Decides-eqb inode.size 0).0 none)))
+    (λ none. absurd (omega (arith, (Decides-eqb inode.size 0).0 none)))
   where
     other : (a b : Bool) → (a || b) ≡ true → (a ≡ true → b ≡ true) → b ≡ true
     other true b either follows = follows refl

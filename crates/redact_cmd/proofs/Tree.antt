@@ -1,5 +1,5 @@
 -- What the tree of an image of the first form rests on.
-use Rattle.std.proofs.Common.{◌≡◌, ℕ, zero, suc, ◌+◌, ◌-◌, ◌*◌, ◌/◌, ◌%◌, min, zero-mul, ◌<◌, ◌≤◌, Bool, true, false, ◌&&◌, ◌||◌, ◌==◌, not, nat_le, nat_lt, Result, Ok, Err, IfOk, if◌then◌else◌, List, [], ◌∷◌, ◌++◌, All, refl, sym, ap, ◌∙◌, arith}
+use Rattle.std.proofs.Common.{◌≡◌, ℕ, zero, suc, ◌+◌, ◌-◌, ◌*◌, ◌/◌, ◌%◌, min, zero-mul, ◌<◌, ◌≤◌, Bool, true, false, ◌&&◌, ◌||◌, ◌==◌, not, nat_le, nat_lt, Result, Ok, Err, IfOk, if◌then◌else◌, List, [], ◌∷◌, refl, sym, ap, ◌∙◌, arith}
 use Rattle.std.proofs.Math.Nat.{mul-le-mul_right}
 use Rattle.std.proofs.lemmas.Grind.{div_ceil_times}
 use Rattle.std.proofs.lemmas.Bool.{false≢true, leb-true}
@@ -39,6 +39,7 @@ slack_is list fragment size at some kept agree =
         → covers (record { at = at + size; len = rounded_up fragment size - size } ∷ []) byte ≡ covers (if full then [] else (record { at = at + size; len = rounded_up fragment size - size } ∷ [])) byte
     none_left byte true is = let e : rounded_up fragment size - size ≡ 0 = omega (arith, is refl) in rw e (grind (arith, nat_tests))
     none_left byte false is = refl
+
     covered : (byte : ℕ) → covers (record { at = at + size; len = rounded_up fragment size - size } ∷ []) byte ≡ covers (one_block_slack fragment size at) byte
     covered byte = none_left byte (rounded_up fragment size == size) (λ full. (Decides-eqb (rounded_up fragment size) size).0 full)
 
@@ -67,9 +68,9 @@ content_is superblock inode at fragment name pieces slack is some begins none pi
     let P : List ℕ → List Piece → List Range → FoundPart = λ n p s. record { role = Content; name = n; size = inode.size; pieces = p; slack = s; unreadable = false } in
     ap (λ n. P n (one_block_pieces inode.size (first_block superblock inode)) (one_block_slack (counted superblock.fsize) inode.size (first_block superblock inode))) (sym none)
     ∙ ap (λ p. P name p (one_block_slack (counted superblock.fsize) inode.size (first_block superblock inode)))
-        (sym (pieces_are ∙ pieces_same inode.size at (first_block superblock inode) begins))
+    (sym (pieces_are ∙ pieces_same inode.size at (first_block superblock inode) begins))
     ∙ ap (λ s. P name pieces s)
-        (sym (slack_is ∙ slack_same fragment inode.size at (first_block superblock inode) some begins ∙ ap (λ n. one_block_slack n inode.size (first_block superblock inode)) is))
+    (sym (slack_is ∙ slack_same fragment inode.size at (first_block superblock inode) some begins ∙ ap (λ n. one_block_slack n inode.size (first_block superblock inode)) is))
 
 first_name-ascii : (name : List ℕ) → is_first_name name ≡ true → IsAscii name
 first_name-ascii [] first i = omega arith
@@ -95,7 +96,7 @@ ends_by (range ∷ ranges) end kept low =
     let last : ℕ = range.at + (range.len - 1) in
     let below : last < end = low last (covers-inside range ranges last (omega arith) (omega (arith, kept.0))) in
     All-cons (λ range. range.at + range.len ≤ end) range ranges (omega (arith, below, kept.0))
-        (ends_by ranges end kept.2 (λ byte covered. low byte (covers_behind range ranges byte covered)))
+    (ends_by ranges end kept.2 (λ byte covered. low byte (covers_behind range ranges byte covered)))
 
 here_or_behind : (here behind : Bool) (P : Type 0) → (here ≡ true → P) → (behind ≡ true → P) → (here || behind) ≡ true → P
 here_or_behind true behind P inside later is = inside refl
@@ -107,9 +108,9 @@ covered_below [] end byte within covered = absurd (false≢true covered)
 covered_below (range ∷ ranges) end byte within covered =
     let ends : range.at + range.len ≤ end = All-head (λ range. range.at + range.len ≤ end) range ranges within in
     here_or_behind (in_range range byte) (covers ranges byte) (byte < end)
-        (λ here. grind (arith, nat_tests))
-        (λ later. covered_below ranges end byte (All-tail (λ range. range.at + range.len ≤ end) range ranges within) later)
-        covered
+    (λ here. grind (arith, nat_tests))
+    (λ later. covered_below ranges end byte (All-tail (λ range. range.at + range.len ≤ end) range ranges within) later)
+    covered
 
 -- the kept list of the bytes of some ranges lies where they lie
 pub kept_within : (list ranges : List Range) (end : ℕ) → IsRangeList list → ((byte : ℕ) → covers list byte ≡ covers ranges byte) → AreRangesWithin end ranges → AreRangesWithin end list
@@ -161,14 +162,14 @@ content_within size superblock inode first small =
     let least = least_block superblock first in
     let fits = small_fits_block size superblock inode small in
     let inside : 0 < inode.size → first_block superblock inode + counted superblock.bsize ≤ size =
-        λ some. first_block_inside size superblock inode (small_has_first_block size superblock inode small some) in
+    λ some. first_block_inside size superblock inode (small_has_first_block size superblock inode small some) in
     let one : rounded_up (counted superblock.fsize) inode.size ≤ counted superblock.fsize =
-        rounded_up_one (counted superblock.fsize) inode.size (omega (arith, block, least)) (omega (arith, block, fits)) in
-    All-cons (λ part. ArePiecesWithin size part.pieces × AreRangesWithin size part.slack) (one_block_content superblock inode) []
-        ( pieces_within size inode.size (first_block superblock inode) (λ some. omega (arith, inside some, fits))
-        , slack_within size (counted superblock.fsize) inode.size (first_block superblock inode) (omega (arith, block, least)) (λ some. omega (arith, inside some, one, block))
-        )
-        (All-nil (λ part. ArePiecesWithin size part.pieces × AreRangesWithin size part.slack))
+    rounded_up_one (counted superblock.fsize) inode.size (omega (arith, block, least)) (omega (arith, block, fits)) in
+    All-cons (λ part. ArePiecesWithin size part.pieces × AreRangesWithin size part.slack) (one_block_content superblock inode) [] (
+      pieces_within size inode.size (first_block superblock inode) (λ some. omega (arith, inside some, fits)),
+      slack_within size (counted superblock.fsize) inode.size (first_block superblock inode) (omega (arith, block, least)) (λ some. omega (arith, inside some, one, block)),
+    )
+    (All-nil (λ part. ArePiecesWithin size part.pieces × AreRangesWithin size part.slack))
 
 -- all that the tree says lies in the image
 pub tree_within : (size : ℕ) (superblock : Superblock) (root : Inode) (named : NamedInode) (guard : List Range) → size ≤ 70368744177664 → is_first_superblock superblock ≡ true
@@ -180,10 +181,10 @@ tree_within size superblock root named guard reach first rooted small guarded = 
   unread = All-nil (λ range. range.at + range.len ≤ size);
   files =
       All-cons (λ file. ArePartsWithin size file.parts) (root_file superblock root) (named_file superblock named ∷ [])
-          (content_within size superblock root first (root_is_small size superblock root rooted))
-          (All-cons (λ file. ArePartsWithin size file.parts) (named_file superblock named) []
-              (content_within size superblock named.inode first small)
-              (All-nil (λ file. ArePartsWithin size file.parts)));
+      (content_within size superblock root first (root_is_small size superblock root rooted))
+      (All-cons (λ file. ArePartsWithin size file.parts) (named_file superblock named) []
+      (content_within size superblock named.inode first small)
+      (All-nil (λ file. ArePartsWithin size file.parts)));
   guard = guarded;
 }
 

@@ -1,5 +1,5 @@
 -- The parts of a rule text in the first form.
-use Rattle.std.specs.Prelude.{◌≡◌, ◌≢◌, ℕ, ◌-◌, ◌<◌, nat_eq, if◌then◌else◌, List, [], ◌∷◌, length, take, drop}
+use Rattle.std.specs.Prelude.{◌≢◌, ℕ, ◌-◌, nat_eq, if◌then◌else◌, List, [], ◌∷◌, length, take, drop}
 use Rattle.std.specs.Cmp.Lexicographic.{pointwise}
 use Rattle.rule_defs.specs.Reads.{first_line}
 

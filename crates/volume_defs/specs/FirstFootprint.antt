@@ -1,13 +1,12 @@
 -- The tree of an image of the first form rests on the image's length and on the bytes of the guard alone.
-use Rattle.std.specs.Prelude.{◌≡◌, ℕ, Result, List, length, refl}
+use Rattle.std.specs.Prelude.{◌≡◌, ℕ, List, length, refl}
 use Rattle.std.proofs.Common.{ap, sym, ◌∙◌, subst}
 use Rattle.range_defs.specs.declared.Range.{Range}
 use Rattle.image_defs.specs.Ask.{run}
 use Rattle.image_defs.specs.Agreement.{AgreeOn}
 use Rattle.image_defs.specs.Runs.{with_value}
 use Rattle.image_defs.specs.Guard.{looked_at, run_guarded, looked_at_guarded}
-use Rattle.rx_tree.specs.declared.file.FileEntry.{FileEntry}
-use Rattle.volume_defs.specs.FirstForm.{FirstFault, first_files}
+use Rattle.volume_defs.specs.FirstForm.{first_files}
 use Rattle.volume_defs.specs.FirstTree.{guard_of, tree_of, first_tree}
 
 -- an image of the same length and with the same bytes in the guard has the same tree and the same guard

@@ -1,5 +1,5 @@
 -- Images of the first form: a UFS2 whose root holds one file of at most one block.
-use Rattle.std.specs.Prelude.{ℕ, ◌+◌, ◌*◌, ◌%◌, ℤ, pos, int_lt, Bool, true, false, not, ◌&&◌, ◌||◌, ◌==◌, nat_lt, nat_le, is_none, Option, Some, None, Result, Ok, Err, List, [], ◌∷◌, length, map}
+use Rattle.std.specs.Prelude.{ℕ, ◌+◌, ◌*◌, ◌%◌, pos, int_lt, Bool, true, false, not, ◌&&◌, ◌||◌, ◌==◌, nat_lt, nat_le, is_none, Option, Some, None, Result, Ok, Err, List, [], ◌∷◌, map}
 use Rattle.std.specs.List.{list_all}
 use Rattle.image_defs.specs.Ask.{Ask, Done, look, check, given, each, ◌>>=◌, ◌>>◌}
 use Rattle.rx_tree.specs.Path.{joined_path}

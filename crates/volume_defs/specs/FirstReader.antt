@@ -1,11 +1,10 @@
 -- How a reader of images of the first form follows the definition, step by step.
-use Rattle.std.specs.Prelude.{◌≡◌, ℕ, Bool, true, false, Option, Some, None, Result, Ok, Err, List, [], ◌∷◌, ◌++◌, length, refl}
+use Rattle.std.specs.Prelude.{◌≡◌, ℕ, true, false, Ok, Err, List, [], ◌∷◌, ◌++◌, refl}
 use Rattle.std.proofs.Common.{ap, ◌∙◌, append-nil}
 use Rattle.range_defs.specs.declared.Range.{Range}
 use Rattle.image_defs.specs.Bytes.{part}
-use Rattle.image_defs.specs.Ask.{Ask, Done, run, visits, ◌>>=◌, check, each}
+use Rattle.image_defs.specs.Ask.{Done, run, visits, ◌>>=◌, check, each}
 use Rattle.image_defs.specs.Runs.{in_front_of, run_bind_ok, run_bind_err, run_check_true, run_check_false, run_each, run_given, visits_next, visits_bind_done, visits_bind_ok, visits_bind_quiet, visits_check_quiet, visits_check_true, visits_each, visits_given}
-use Rattle.rx_tree.specs.declared.file.FileEntry.{FileEntry}
 use Rattle.ufs_defs.specs.Superblock.{superblock_of}
 use Rattle.ufs_defs.specs.Inode.{inode_place, inode_of}
 use Rattle.ufs_defs.specs.Directory.{Entry, entries_of}

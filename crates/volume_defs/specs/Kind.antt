@@ -34,8 +34,8 @@ is_ufs2 probes = bytes_eq probes.ufs2 (0x19 ∷ 0x01 ∷ 0x54 ∷ 0x19 ∷ [])
 abbrev pub fitting_kind : Probes → Option FsKind
 fitting_kind probes =
     if is_ntfs probes
-        then Some Ntfs
-        else (if is_hfs probes then Some HfsPlus else (if is_ufs1 probes then Some Ufs1 else (if is_ufs2 probes then Some Ufs2 else None)))
+    then Some Ntfs
+    else (if is_hfs probes then Some HfsPlus else (if is_ufs1 probes then Some Ufs1 else (if is_ufs2 probes then Some Ufs2 else None)))
 
 -- the bytes at the places of the magics, all of which are asked for
 abbrev pub probes : {E : Type 0} → Ask E Probes

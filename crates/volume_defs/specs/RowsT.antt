@@ -1,5 +1,5 @@
 -- What the definitions say of the small image, worked out by hand.
-use Rattle.std.specs.Prelude.{◌≡◌, ℕ, false, List, [], ◌∷◌, length, take, slice_set, Option, Some, None, Result, Ok, Err, refl}
+use Rattle.std.specs.Prelude.{◌≡◌, false, List, [], ◌∷◌, length, take, slice_set, Some, None, Ok, Err, refl}
 use Rattle.std.specs.Int.Count.{ones}
 use Rattle.image_defs.specs.Bytes.{part}
 use Rattle.image_defs.specs.Ask.{run, visits}
@@ -12,7 +12,7 @@ use Rattle.rx_tree.specs.declared.file.FileEntry.{FileEntry}
 use Rattle.rx_tree.specs.declared.volume.FsKind.TheVariants.{Ufs2}
 use Rattle.ufs_defs.specs.Superblock.{superblock_of, wrong_field}
 use Rattle.ufs_defs.specs.Inode.{inode_place, inode_of}
-use Rattle.ufs_defs.specs.Directory.{Entry, entries_of, entries_from, entries_within}
+use Rattle.ufs_defs.specs.Directory.{entries_of, entries_from, entries_within}
 use Rattle.ufs_defs.specs.Blocks.{first_block, one_block_content}
 use Rattle.volume_defs.specs.Kind.{kind_of}
 use Rattle.volume_defs.specs.FirstForm.{FirstFault, NotFirstForm, first_files, files_below, first_file, first_entries, first_root, first_inode, first_superblock, is_first_superblock, is_first_inode, has_first_block, is_first_root, is_first_entry, is_first_file, is_small_file}

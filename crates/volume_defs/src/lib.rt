@@ -7,5 +7,4 @@ ghost use Rattle.volume_defs.specs.FirstFootprint.{FirstFormLaw};
 /// guard has the same tree and the same guard, or hasn't the first form either.
 pub fn first_form_footprint()
     ensures { FirstFormLaw }
-{
-}
+{}

@@ -5,13 +5,11 @@ ghost use Rattle.volume_defs.specs.FirstForm.{is_first_entry, is_first_name, lis
 ghost use Rattle.image_defs.specs.Bytes.{part};
 ghost use Rattle.redact_cmd.specs.Stages.{GivesItems, IsOwnRefusal};
 
+use crate::status::Status;
+use image_defs::little;
 use std::alloc::Global;
 use std::marker::Model;
-
-use image_defs::little;
 use ufs_defs::inode::Inode;
-
-use crate::status::Status;
 
 /// An entry: its place in the content, the inode that it names, its length, and its name.
 #[derive(Drop)]
@@ -98,8 +96,7 @@ fn stands_at(content: &[u8], at: usize) -> bool
     }
     let len = usize::from(little::u16_at(content, at + 4));
     let named = names_inode(little::u32_at(content, at));
-    may_be_record_length(left, len)
-        && (!named || may_be_name_length(len, name_len_at(content, at)))
+    may_be_record_length(left, len) && (!named || may_be_name_length(len, name_len_at(content, at)))
 }
 
 /// The entry at a place.
@@ -123,7 +120,10 @@ fn leads_to_file(entry: &Entry<'_>) -> bool
 }
 
 /// The entries of a directory's content that lead to files.
-pub(super) fn leading_entries<'a>(alloc: Global, content: &'a [u8]) -> Result<Vec<Entry<'a>>, Status>
+pub(super) fn leading_entries<'a>(
+    alloc: Global,
+    content: &'a [u8],
+) -> Result<Vec<Entry<'a>>, Status>
     requires { length content.now % 512 ≡ 0 }
     ensures entries { GivesItems result (listed (entries_of content.now)) }
     ensures refusals { IfErr result IsOwnRefusal }

@@ -5,11 +5,10 @@ ghost use Rattle.ufs_defs.specs.Inode.{inode_of, inode_place, inode_fragment};
 ghost use Rattle.ufs_defs.specs.Blocks.{first_block};
 ghost use Rattle.volume_defs.specs.FirstForm.{is_first_superblock, is_first_inode, is_first_root, is_first_file, is_small_file, is_plain, has_first_block};
 
+use super::superblock::count_of;
 use image_defs::little;
 use ufs_defs::inode::Inode;
 use ufs_defs::superblock::Superblock;
-
-use super::superblock::count_of;
 
 /// The inode that the bytes hold.
 #[tactic(auto, unfolding(ufs_defs::specs::Inode::inode_of))]
@@ -66,11 +65,7 @@ fn place_of_inode(superblock: &Superblock, number: u32) -> u128
 }
 
 /// Whether the volume has an inode of this number that lies in the image.
-#[tactic(
-    auto,
-    unfolding(volume_defs::specs::FirstForm::is_first_inode),
-    using(crate::proofs::Reading::some_in_group, crate::proofs::Reading::some_in_block)
-)]
+#[tactic(auto, unfolding(volume_defs::specs::FirstForm::is_first_inode), using(crate::proofs::Reading::some_in_group, crate::proofs::Reading::some_in_block))]
 pub(super) fn inode_within(size: u64, superblock: &Superblock, number: u32) -> bool
     requires { is_first_superblock superblock.now ≡ true }
     ensures { result ≡ is_first_inode size superblock.now number }
@@ -80,14 +75,7 @@ pub(super) fn inode_within(size: u64, superblock: &Superblock, number: u32) -> b
 }
 
 /// The place of the inode of a number that the volume has and that lies in the image.
-#[tactic(
-    auto,
-    using(
-        crate::proofs::Reading::some_in_group,
-        crate::proofs::Reading::some_in_block,
-        crate::proofs::Reading::inode_inside
-    )
-)]
+#[tactic(auto, using(crate::proofs::Reading::some_in_group, crate::proofs::Reading::some_in_block, crate::proofs::Reading::inode_inside))]
 pub(super) fn inode_at(size: u64, superblock: &Superblock, number: u32) -> u64
     requires first { is_first_superblock superblock.now ≡ true }
     requires within { is_first_inode size superblock.now number ≡ true }

@@ -1,4 +1,3 @@
-use Rattle.std.proofs.Common.{arith}
 use Rattle.redact_cmd.proofs.FirstLines.{other_opening, other_length, other_middle, line-parts, on_none}
 use Rattle.redact_cmd.proofs.rules.split.Goals as goal
 
@@ -16,4 +15,4 @@ returns-in_err-name-clause-none c =
 pub returns-clause-found : goal.returns-clause-found
 returns-clause-found c =
     line-parts c.args.line.now _ _ c.in_ok-head.digits.now c.in_ok-name.name.now c.in_ok-quoted.ensures.cases.0 c.in_ok-quoted.ensures.cases.1
-        c.in_ok-head.ensures.cases.0 c.in_ok-head.ensures.cases.1 c.in_ok-head.ensures.cases.2 c.in_ok-name.ensures.cases.0 c.in_ok-name.ensures.cases.1
+    c.in_ok-head.ensures.cases.0 c.in_ok-head.ensures.cases.1 c.in_ok-head.ensures.cases.2 c.in_ok-name.ensures.cases.0 c.in_ok-name.ensures.cases.1

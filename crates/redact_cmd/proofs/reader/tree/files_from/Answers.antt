@@ -7,6 +7,6 @@ use Rattle.redact_cmd.proofs.reader.tree.files_from.Goals as goal
 pub from_vec-requires : goal.from_vec-requires
 from_vec-requires c =
     subst HaveRisingIds
-        (sym (c.in_ok-vec.ensures.items ∙ ap (λ file. file ∷ c.in_ok-named_file.named_file ∷ []) c.in_ok-root_file.ensures
-            ∙ ap (λ file. root_file c.args.superblock.now c.args.root.now ∷ file ∷ []) c.in_ok-named_file.ensures))
-        (rising_files c.args.superblock.now c.args.root.now c.args.named.now c.requires.name)
+    (sym (c.in_ok-vec.ensures.items ∙ ap (λ file. file ∷ c.in_ok-named_file.named_file ∷ []) c.in_ok-root_file.ensures
+    ∙ ap (λ file. root_file c.args.superblock.now c.args.root.now ∷ file ∷ []) c.in_ok-named_file.ensures))
+    (rising_files c.args.superblock.now c.args.root.now c.args.named.now c.requires.name)
