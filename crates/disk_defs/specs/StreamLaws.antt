@@ -22,26 +22,26 @@ took_prefix-of_longer before after text more h =
 -- after a whole text, some first bytes of a second one are first bytes of both
 pub took_prefix-behind : (before mid after : Option (List ℕ)) (first second : List ℕ) → mid ≡ taken_with before first
     → TookPrefixOf mid after second → TookPrefixOf before after (first ++ second)
-took_prefix-behind before mid after first second whole h =
-    ( length first + h.0
-    , omega (arith, h.1, length-append first second)
-    , h.2 ∙ ap (λ taken. taken_with taken (take h.0 second)) whole ∙ taken_with-append before first (take h.0 second)
-        ∙ ap (taken_with before) (sym (take-append-add first second h.0))
-    )
+took_prefix-behind before mid after first second whole h = (
+  length first + h.0,
+  omega (arith, h.1, length-append first second),
+  h.2 ∙ ap (λ taken. taken_with taken (take h.0 second)) whole ∙ taken_with-append before first (take h.0 second)
+      ∙ ap (taken_with before) (sym (take-append-add first second h.0)),
+)
 
 -- after a first text was taken, some first bytes of what follows it in a whole are first bytes of the whole
 pub took_prefix-within : (before mid after : Option (List ℕ)) (first own more whole : List ℕ) → mid ≡ taken_with before first
     → TookPrefixOf mid after own → first ++ (own ++ more) ≡ whole → TookPrefixOf before after whole
 took_prefix-within before mid after first own more whole taken h is =
     subst (λ text. TookPrefixOf before after text) is
-        (took_prefix-behind before mid after first (own ++ more) taken (took_prefix-of_longer mid after own more h))
+    (took_prefix-behind before mid after first (own ++ more) taken (took_prefix-of_longer mid after own more h))
 
 -- the pieces of a list up to one of its items, that item's and those of the rest are all of them
 pub flat_map-around : {X : Type 0} (piece : X → List ℕ) (xs : List X) (i : ℕ) (d : X) → i < length xs
     → flat_map piece xs ≡ flat_map piece (take i xs) ++ (piece (slice_index_or xs i d) ++ flat_map piece (drop (suc i) xs))
 flat_map-around piece xs i d h =
     sym (ap (flat_map piece) (take-append-drop i xs)) ∙ flat_map-append piece (take i xs) (drop i xs)
-        ∙ ap (λ rest. flat_map piece (take i xs) ++ flat_map piece rest) (drop-cons xs i d h)
+    ∙ ap (λ rest. flat_map piece (take i xs) ++ flat_map piece rest) (drop-cons xs i d h)
 
 -- the pieces before an item were taken, and some first bytes of the item's own: those are first bytes of all
 pub took_prefix-in_pieces : {X : Type 0} (piece : X → List ℕ) (xs : List X) (i : ℕ) (d : X) (own : List ℕ) (before mid after : Option (List ℕ))

@@ -8,9 +8,11 @@ use Rattle.std.proofs.lemmas.Bool.Decides.{nat_tests}
 use Rattle.std.proofs.lemmas.List.Elements.{All-head, All-tail, All-cons, All-nil}
 use Rattle.std.proofs.lemmas.Option.{slice_get_past}
 use Rattle.range_defs.specs.declared.Range.{Range}
-use Rattle.range_defs.specs.Places.{in_range, covers, in_front, longest_ranges}
+use Rattle.range_defs.specs.Places.{in_range, covers, IsRangeList, in_front, longest_ranges}
+use Rattle.range_defs.specs.RangeLaws.{EndsBy, in_range-behind, ends_where_covered, same_as_longest_ranges}
 use Rattle.image_defs.specs.Ask.{Ask, run, visits}
 use Rattle.image_defs.specs.Agreement.{AgreeOn, run_agree, visits_agree}
+use Rattle.image_defs.specs.Looks.{LooksAt}
 
 -- the bytes of an image that a program looks at, as the longest ranges
 unfoldable pub looked_at : {E X : Type 0} → List ℕ → Ask E X → List Range
@@ -80,10 +82,6 @@ longest-covers test from (suc count) byte begun inside =
     longest-next test from count byte ∙ rw apart (behind_first (test from) (covers (longest_ranges test (suc from) count) byte)) ∙ rest behind)
     (cases_eq byte from)
 
--- a range ends at most at this byte
-abbrev pub EndsBy : ℕ → Range → Type 0
-EndsBy end range = range.at + range.len ≤ end
-
 in_front-ends : (end byte : ℕ) (ranges : List Range) → suc byte ≤ end → All (EndsBy end) ranges → All (EndsBy end) (in_front byte ranges)
 in_front-ends end byte [] inside ends = All-cons (EndsBy end) (record { at = byte; len = 1 }) [] (omega arith) (All-nil (EndsBy end))
 in_front-ends end byte (range ∷ ranges) inside ends = joins_or_not (range.at == suc byte) (λ joins. grind (arith, nat_tests))
@@ -136,3 +134,18 @@ unfolding looked_at
 looked_at_guarded a b ask agree =
     ap (λ ranges. longest_ranges (covers ranges) 0 (length b)) (visits_agree ask a b (looked_at-agree a b ask agree))
     ∙ ap (λ len. longest_ranges (covers (visits a ask)) 0 len) (sym agree.same_length)
+
+-- ranges that end by a byte cover none from there on
+pub covers-past : (end byte : ℕ) (ranges : List Range) → All (EndsBy end) ranges → end ≤ byte → covers ranges byte ≡ false
+covers-past end byte [] ends past = refl
+covers-past end byte (range ∷ ranges) ends past =
+    rw (in_range-behind range byte (omega (arith, past, All-head (EndsBy end) range ranges ends)))
+    (covers-past end byte ranges (All-tail (EndsBy end) range ranges ends) past)
+
+-- where a program looks only inside the image, the canonical list of its ranges is the list of the bytes that it looks at
+pub list-looked_at : {E X : Type 0} (image : List ℕ) (ask : Ask E X) (ranges : List Range) → IsRangeList ranges
+    → ((byte : ℕ) → covers ranges byte ≡ covers (visits image ask) byte) → LooksAt (EndsBy (length image)) image ask → ranges ≡ looked_at image ask
+unfolding looked_at
+list-looked_at image ask ranges kept same looks =
+    same_as_longest_ranges (covers (visits image ask)) (length image) ranges kept same
+    (ends_where_covered ranges (length image) kept (λ byte past. same byte ∙ covers-past (length image) byte (visits image ask) looks past))

@@ -33,6 +33,18 @@ pub looks_look : {E Y : Type 0} (P : Range → Type 0) (image : List ℕ) (at le
     → P (record { at = at; len = len }) → LooksAt P image (next (part image at len)) → LooksAt P image (Look at len next)
 looks_look P image at len next first later = All-cons P (record { at = at; len = len }) (visits image (next (part image at len))) first later
 
+-- a given value in front of a program
+pub looks_given : {E X : Type 0} (P : Range → Type 0) (image : List ℕ) (result : Result X E) → LooksAt P image (given result)
+looks_given P image (Ok x) = All-nil P
+looks_given P image (Err e) = All-nil P
+
+-- the programs for some items
+pub looks_each : {E X Y : Type 0} (P : Range → Type 0) (image : List ℕ) (ask : X → Ask E Y) (xs : List X) → ((x : X) → LooksAt P image (ask x)) → LooksAt P image (each ask xs)
+looks_each P image ask [] looks = All-nil P
+looks_each P image ask (x ∷ xs) looks =
+    looks_bind P image (ask x) (λ y. each ask xs >>= (λ ys. Done (y ∷ ys))) (looks x)
+    (λ y is. looks_bind P image (each ask xs) (λ ys. Done (y ∷ ys)) (looks_each P image ask xs looks) (λ ys are. All-nil P))
+
 -- a value of two programs in a row comes from a value of the first
 pub bind_gives : {E X Y : Type 0} (image : List ℕ) (ask : Ask E X) (next : X → Ask E Y) (y : Y) → run image (ask >>= next) ≡ Ok y
     → (x : X) × (run image ask ≡ Ok x) × (run image (next x) ≡ Ok y)

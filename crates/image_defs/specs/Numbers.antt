@@ -108,6 +108,11 @@ pub big_at_below : (n : ℕ) (bytes : List ℕ) (at : ℕ) → ((i : ℕ) → sl
 unfolding big_at
 big_at_below n bytes at are_bytes = big_from-lt at n bytes are_bytes
 
+-- a number of one byte is that byte
+pub little_at_byte : (bytes : List ℕ) (at : ℕ) → little_at 1 bytes at ≡ slice_index bytes at
+unfolding little_at
+little_at_byte bytes at = omega arith
+
 -- a signed number inside a part of the bytes stands at that place of them all
 pub little_signed_at_part : (width : Width) (bytes : List ℕ) (at len i : ℕ) → i + bytes_of_width width ≤ len → little_signed_at width (part bytes at len) i ≡ little_signed_at width bytes (at + i)
 unfolding little_signed_at

@@ -1,11 +1,20 @@
 //! Numbers at places of a slice of bytes, the lowest byte first.
 #![tactic(auto, using(crate::specs::Numbers::field_reads))]
 
-ghost use Rattle.std.specs.Prelude.{◌≡◌, ◌+◌, ◌≤◌, length};
+ghost use Rattle.std.specs.Prelude.{◌≡◌, ◌+◌, ◌<◌, ◌≤◌, length};
 ghost use Rattle.std.specs.Int.{w32, w64};
 ghost use Rattle.image_defs.specs.Numbers.{little_at, little_signed_at};
 
 use byteorder::{ByteOrder, LittleEndian};
+
+/// The byte at a place.
+#[tactic(auto, using(crate::specs::Numbers::little_at_byte))]
+pub fn u8_at(bytes: &[u8], at: usize) -> u8
+    requires { at < length bytes.now }
+    ensures { result ≡ little_at 1 bytes.now at }
+{
+    bytes[at]
+}
 
 /// The `u16` at a place.
 pub fn u16_at(bytes: &[u8], at: usize) -> u16

@@ -1,8 +1,8 @@
 -- Laws on claims: the canonical list of claims is the one list of the longest claims, and so the only one.
-use Rattle.std.proofs.Common.{◌≡◌, ℕ, zero, suc, ◌+◌, ◌-◌, ◌<◌, ◌≤◌, Bool, true, false, cond, Option, Some, None, List, [], ◌∷◌, refl, sym, ◌∙◌, ap, subst, ⊎_elim, arith}
+use Rattle.std.proofs.Common.{◌≡◌, ℕ, zero, suc, ◌+◌, ◌-◌, ◌<◌, ◌≤◌, Bool, true, false, cond, leb, Option, Some, None, List, [], ◌∷◌, refl, sym, ◌∙◌, ap, subst, ⊎_elim, arith}
 use Rattle.std.specs.List.{All}
 use Rattle.std.proofs.lemmas.List.Elements.{All-head, All-tail, All-cons, All-nil}
-use Rattle.std.proofs.lemmas.Bool.{cases_lt, cases_eq}
+use Rattle.std.proofs.lemmas.Bool.{cases_lt, cases_eq, cases_Bool, cond-true, cond-false}
 use Rattle.std.proofs.lemmas.Bool.Decides.{nat_tests}
 use Rattle.range_defs.specs.declared.Claim.{Claim}
 use Rattle.range_defs.specs.Places.{in_range}
@@ -158,6 +158,35 @@ longest-from paint from (suc count) end total (claim ∷ claims) kept begins wit
     (later (claim ∷ claims) kept before within (λ byte low high. agree byte (omega arith) high)))
     (λ at. longest-begun paint from count end claim claims (omega (arith, begins, at)) later kept within agree)
     (cases_lt from claim.range.at)
+
+some_none : (paint : ℕ × ℕ) → Some paint ≡ None → ⊥
+some_none paint same = cc
+
+lesser_some : (paint other : ℕ × ℕ) → lesser_paint (Some paint) (Some other) ≡ None → ⊥
+lesser_some paint other none =
+    ⊎_elim
+    (λ first. some_none paint (sym (cond-true (leb paint.0 other.0) (Some paint) (Some other) first) ∙ none))
+    (λ second. some_none other (sym (cond-false (leb paint.0 other.0) (Some paint) (Some other) second) ∙ none))
+    (cases_Bool (leb paint.0 other.0))
+
+none_later : (paint other : Option (ℕ × ℕ)) → lesser_paint paint other ≡ None → other ≡ None
+none_later None other none = none
+none_later (Some paint) None none = refl
+none_later (Some paint) (Some other) none = absurd (lesser_some paint other none)
+
+-- a canonical list has no claim behind the byte from which on it paints no byte
+pub ends_where_painted : (claims : List Claim) (end : ℕ) → IsFillMap claims → ((byte : ℕ) → end ≤ byte → painted claims byte ≡ None)
+    → All (λ (claim : Claim). claim.range.at + claim.range.len ≤ end) claims
+ends_where_painted [] end kept out = All-nil (EndsBy end)
+ends_where_painted (claim ∷ claims) end kept out =
+    let last : ℕ = claim.range.at + (claim.range.len - 1) in
+    let fits : claim.range.at + claim.range.len ≤ end =
+    ⊎_elim
+    (λ before. omega (arith, kept.0))
+    (λ past. absurd (some_none (claim.rule, claim.fill) (sym (painted-inside claim claims last kept (omega arith) (omega (arith, kept.0))) ∙ out last past)))
+    (cases_lt last end) in
+    All-cons (EndsBy end) claim claims fits
+    (ends_where_painted claims end kept.2 (λ byte behind. none_later (paint_of claim byte) (painted claims byte) (out byte behind)))
 
 -- a canonical list of claims that paints each byte as a function says, and no claim of which ends behind a byte, is
 -- the list of the longest claims in front of that byte

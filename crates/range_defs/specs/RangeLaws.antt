@@ -2,7 +2,7 @@
 use Rattle.std.proofs.Common.{◌≡◌, ℕ, zero, suc, ◌+◌, ◌-◌, ◌<◌, ◌≤◌, Bool, true, false, ◌||◌, List, [], ◌∷◌, refl, sym, ◌∙◌, ap, subst, ⊎_elim, arith}
 use Rattle.std.specs.List.{All}
 use Rattle.std.proofs.lemmas.List.Elements.{All-head, All-tail, All-cons, All-nil}
-use Rattle.std.proofs.lemmas.Bool.{cases_lt, cases_eq}
+use Rattle.std.proofs.lemmas.Bool.{cases_lt, cases_eq, true≢false}
 use Rattle.std.proofs.lemmas.Bool.Decides.{nat_tests}
 use Rattle.range_defs.specs.declared.Range.{Range}
 use Rattle.range_defs.specs.Places.{in_range, covers, BeginsBehind, IsRangeList, in_front, longest_ranges}
@@ -147,6 +147,24 @@ longest-from test from (suc count) end total (range ∷ ranges) kept begins with
     (later (range ∷ ranges) kept before within (λ byte low high. agree byte (omega arith) high)))
     (λ at. longest-begun test from count end range ranges (omega (arith, begins, at)) later kept within agree)
     (cases_lt from range.at)
+
+or_false : (a b : Bool) → (a || b) ≡ false → b ≡ false
+or_false true b out = absurd (true≢false out)
+or_false false b out = out
+
+-- a canonical list has no range behind the byte from which on it has no byte
+pub ends_where_covered : (ranges : List Range) (end : ℕ) → IsRangeList ranges → ((byte : ℕ) → end ≤ byte → covers ranges byte ≡ false)
+    → All (λ (range : Range). range.at + range.len ≤ end) ranges
+ends_where_covered [] end kept out = All-nil (EndsBy end)
+ends_where_covered (range ∷ ranges) end kept out =
+    let last : ℕ = range.at + (range.len - 1) in
+    let fits : range.at + range.len ≤ end =
+    ⊎_elim
+    (λ before. omega (arith, kept.0))
+    (λ past. absurd (true≢false (sym (covers-inside range ranges last (omega arith) (omega (arith, kept.0))) ∙ out last past)))
+    (cases_lt last end) in
+    All-cons (EndsBy end) range ranges fits
+    (ends_where_covered ranges end kept.2 (λ byte behind. or_false (in_range range byte) (covers ranges byte) (out byte behind)))
 
 -- a canonical list with the bytes that pass a test, no range of which ends behind a byte, is the list of the longest
 -- ranges in front of that byte

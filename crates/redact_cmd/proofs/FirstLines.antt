@@ -1,10 +1,15 @@
 -- The first form of a rule text: each line has one name and two digits, or none.
-use Rattle.std.proofs.Common.{◌≡◌, ℕ, ◌+◌, ◌-◌, ◌*◌, ◌<◌, nat_eq, true, false, codes, List, [], ◌∷◌, ◌++◌, length, take, drop, refl, sym, ap, subst, ◌∙◌, append_assoc, arith, length-append, slice_index_or, length-drop, Option, Some, None, IfNone, ◌⊎◌, inl, inr, ⊎_elim, append-nil, ◌&&◌, cond}
+use Rattle.std.proofs.Common.{◌≡◌, ℕ, ◌+◌, ◌-◌, ◌*◌, ◌<◌, ◌≤◌, nat_eq, true, false, codes, List, [], ◌∷◌, ◌++◌, length, take, drop, refl, sym, ap, subst, ◌∙◌, append_assoc, arith, length-append, slice_index_or, length-drop, Option, Some, None, IfNone, ◌⊎◌, inl, inr, ⊎_elim, append-nil, ◌&&◌, cond, Bool, slice_index, zero, suc, nat_le}
 use Rattle.std.proofs.Math.Seq.{take-append_seam, drop-append_seam}
 use Rattle.std.proofs.lemmas.List.{take-append-drop}
 use Rattle.std.proofs.lemmas.Bool.{false≢true, eqb-true}
 use Rattle.std.specs.Cmp.Lexicographic.{pointwise, same_text, other_text}
-use Rattle.rule_defs.specs.Reads.{first_line, hex_value, is_plain_name, IsFirstLine}
+use Rattle.std.specs.List.{list_all}
+use Rattle.std.specs.Str.{IsAscii, IsUtf8}
+use Rattle.std.proofs.lemmas.Str.{IsUtf8-from_ascii}
+use Rattle.std.proofs.lemmas.Bool.Decides.{nat_tests}
+use Rattle.rule_defs.specs.Reads.{first_line, hex_value, is_name_byte, is_plain_name, IsFirstLine, Reads, SaysNoRules, first_rule}
+use Rattle.rule_defs.specs.declared.Rule.{Rule}
 use Rattle.redact_cmd.specs.FirstLine.{IsOtherLine, without_end}
 
 abbrev pub opening : List ℕ
@@ -204,3 +209,68 @@ first_form text name high low high_value low_value fill line plain high_is low_i
       ends = parts.1;
       whole = parts.2 ∙ ap (λ t. t ++ parts.0) line;
     }
+
+and-left : (a b : Bool) → (a && b) ≡ true → a ≡ true
+and-left true b h = refl
+and-left false b h = h
+
+and-right : (a b : Bool) → (a && b) ≡ true → b ≡ true
+and-right true b h = h
+and-right false b h = absurd (false≢true h)
+
+-- a text in the first form has at most 277 bytes
+pub first_form-short : (text name : List ℕ) (fill : ℕ) → IsFirstLine text name fill → length text ≤ 277
+first_form-short text name fill h =
+    let line = first_line name h.high h.low in
+    let ending : length h.ending ≤ 1 = ⊎_elim (λ e. omega (arith, ap length e)) (λ e. omega (arith, ap length e)) h.ends in
+    let named : length name ≤ 255 = grind (arith, nat_tests, and-right (nat_le 1 (length name)) (nat_le (length name) 255) (and-left _ (list_all is_name_byte name) h.plain)) in
+    omega (
+      arith,
+      ap length h.whole,
+      length-append line h.ending,
+      ap length (first_line-opening name h.high h.low),
+      length-append opening (rest_of name h.high h.low),
+      length-append (name ++ middle) (h.high ∷ h.low ∷ []),
+      length-append name middle,
+    )
+
+name_byte-low : (byte : ℕ) → is_name_byte byte ≡ true → byte < 128
+name_byte-low byte h = grind (arith, nat_tests)
+
+ascii-of : (name : List ℕ) → list_all is_name_byte name ≡ true → (i : ℕ) → slice_index name i < 128
+ascii-of [] h i = omega arith
+ascii-of (byte ∷ name) h zero = name_byte-low byte (and-left (is_name_byte byte) (list_all is_name_byte name) h)
+ascii-of (byte ∷ name) h (suc i) = ascii-of name (and-right (is_name_byte byte) (list_all is_name_byte name) h) i
+
+-- a plain name is ASCII
+pub plain_ascii : (name : List ℕ) → is_plain_name name ≡ true → IsAscii name
+plain_ascii name h = ascii-of name (and-right _ (list_all is_name_byte name) h)
+
+-- a plain name is text
+pub plain_text : (name : List ℕ) → is_plain_name name ≡ true → IsUtf8 name
+plain_text name h = IsUtf8-from_ascii name (plain_ascii name h)
+
+-- a text that is too long says no rules
+pub longer-no_rules : (text : List ℕ) → 277 < length text → SaysNoRules text
+longer-no_rules text long rules reads = omega (arith, first_form-short text reads.name reads.fill reads.line)
+
+-- nor does one in which no name and fill are found
+pub other-no_rules : (text : List ℕ) → ((name : List ℕ) (fill : ℕ) → ¬ (IsFirstLine text name fill)) → SaysNoRules text
+other-no_rules text none rules reads = none reads.name reads.fill reads.line
+
+-- the rule of a text in the first form
+pub line-reads : (text name : List ℕ) (fill : ℕ) (rule : Rule) → rule ≡ first_rule name fill → IsFirstLine text name fill → Reads text (rule ∷ [])
+line-reads text name fill rule is line = record { name = name; fill = fill; line = line; rules_are = ap (λ r. r ∷ []) is }
+
+-- a text says one list of rules
+pub one_reading : (text : List ℕ) (a b : List Rule) → Reads text a → Reads text b → a ≡ b
+one_reading text a b r s =
+    let l = r.line in
+    let m = s.line in
+    let same = same_parts r.name s.name l.high l.low m.high m.low (sym (line-of text r.name r.fill l) ∙ line-of text s.name s.fill m) in
+    let highs : Some l.high_value ≡ Some m.high_value = sym l.high_is ∙ ap hex_value same.1 ∙ m.high_is in
+    let lows : Some l.low_value ≡ Some m.low_value = sym l.low_is ∙ ap hex_value same.2 ∙ m.low_is in
+    let high_values : l.high_value ≡ m.high_value = cc in
+    let low_values : l.low_value ≡ m.low_value = cc in
+    let fills : r.fill ≡ s.fill = omega (arith, l.fill_is, m.fill_is, high_values, low_values) in
+    r.rules_are ∙ ap (λ name. first_rule name r.fill ∷ []) same.0 ∙ ap (λ fill. first_rule s.name fill ∷ []) fills ∙ sym s.rules_are

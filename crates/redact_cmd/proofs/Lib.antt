@@ -1,5 +1,6 @@
 pub mod Lines
 pub mod FirstLines
+pub mod Plans
 pub mod Reading
 pub mod Told
 pub mod Exits

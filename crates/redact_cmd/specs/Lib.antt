@@ -1,4 +1,6 @@
 pub mod Words
 pub mod FirstLine
-pub mod Status
+pub mod Refusals
+pub mod PlanCommand
 pub mod Stages
+pub mod Status

@@ -1,5 +1,5 @@
 //! Reads an image of the first form.
-ghost use Rattle.std.specs.Prelude.{◌≡◌, ◌%◌, ◌≤◌, true, length, IfErr, IfSome, IsErrOf};
+ghost use Rattle.std.specs.Prelude.{◌≡◌, ◌%◌, ◌≤◌, true, length, IfErr, IfSome, IsErrOf, ◌≢◌, Err};
 ghost use Rattle.disk_defs.specs.Count.{Rose};
 ghost use Rattle.disk_defs.specs.Disk.{size_of, told_image};
 ghost use Rattle.disk_defs.specs.declared.Area.TheVariants.{Image};
@@ -35,6 +35,7 @@ pub(crate) fn read_tree<S: Store>(alloc: Global, store: &mut S) -> Result<Tree, 
     ensures same { S.state store.new ≡ S.state store.old }
     ensures counts { S.faults store.old ≤ S.faults store.new }
     ensures cause { IsErrOf result Status.DeviceFault → Rose (S.faults store.old) (S.faults store.new) }
+    ensures calm { result ≢ Err Status.DeviceFault → S.faults store.new ≡ S.faults store.old }
 {
     match store.len(Area::Image) {
         Ok(size) => read_image(alloc, store, size),
@@ -51,6 +52,7 @@ fn read_image<S: Store>(alloc: Global, store: &mut S, size: u64) -> Result<Tree,
     ensures same { S.state store.new ≡ S.state store.old }
     ensures counts { S.faults store.old ≤ S.faults store.new }
     ensures cause { IsErrOf result Status.DeviceFault → Rose (S.faults store.old) (S.faults store.new) }
+    ensures calm { result ≢ Err Status.DeviceFault → S.faults store.new ≡ S.faults store.old }
 {
     if !has_first_length(size) {
         return Err(Status::NotBuilt);
@@ -83,6 +85,7 @@ fn read_volume<S: Store>(
     ensures same { S.state store.new ≡ S.state store.old }
     ensures counts { S.faults store.old ≤ S.faults store.new }
     ensures cause { IsErrOf result Status.DeviceFault → Rose (S.faults store.old) (S.faults store.new) }
+    ensures calm { result ≢ Err Status.DeviceFault → S.faults store.new ≡ S.faults store.old }
 {
     let root = read_root(store, size, superblock)?;
     let content = read_content(alloc, store, size, superblock, &root)?;

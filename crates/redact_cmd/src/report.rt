@@ -129,6 +129,7 @@ fn write_ranges<K: Sink>(sink: &mut K, claims: &[Claim]) -> Result<(), Fault>
     ensures prefix { OnErr result (TookPrefixOf (K.taken sink.old) (K.taken sink.new) (flat_map range_line claims.now)) }
     ensures counts { K.faults sink.old ≤ K.faults sink.new }
     ensures cause { OnErr result (Rose (K.faults sink.old) (K.faults sink.new)) }
+    ensures calm { OnOk result (K.faults sink.new ≡ K.faults sink.old) }
 {
     for claim in claims {
         write_all(sink, line_of(claim).as_str().as_bytes())?;
@@ -141,6 +142,7 @@ fn write_listed<K: Sink>(sink: &mut K, listed: &Listed) -> Result<(), Fault>
     ensures prefix { OnErr result (TookPrefixOf (K.taken sink.old) (K.taken sink.new) (listed_line listed.now)) }
     ensures counts { K.faults sink.old ≤ K.faults sink.new }
     ensures cause { OnErr result (Rose (K.faults sink.old) (K.faults sink.new)) }
+    ensures calm { OnOk result (K.faults sink.new ≡ K.faults sink.old) }
 {
     write_all(sink, listed_head_of(listed).as_str().as_bytes())?;
     write_all(sink, listed.path.as_str().as_bytes())?;
@@ -152,6 +154,7 @@ fn write_listing<K: Sink>(sink: &mut K, lines: &[Listed]) -> Result<(), Fault>
     ensures prefix { OnErr result (TookPrefixOf (K.taken sink.old) (K.taken sink.new) (flat_map listed_line lines.now)) }
     ensures counts { K.faults sink.old ≤ K.faults sink.new }
     ensures cause { OnErr result (Rose (K.faults sink.old) (K.faults sink.new)) }
+    ensures calm { OnOk result (K.faults sink.new ≡ K.faults sink.old) }
 {
     for listed in lines {
         write_listed(sink, listed)?;
@@ -165,6 +168,7 @@ pub fn write_report<K: Sink>(sink: &mut K, plan: &Plan, state: ReportState) -> R
     ensures prefix { OnErr result (TookPrefixOf (K.taken sink.old) (K.taken sink.new) (report plan.now state)) }
     ensures counts { K.faults sink.old ≤ K.faults sink.new }
     ensures cause { OnErr result (Rose (K.faults sink.old) (K.faults sink.new)) }
+    ensures calm { OnOk result (K.faults sink.new ≡ K.faults sink.old) }
 {
     write_all(sink, head_of(plan, state).as_str().as_bytes())?;
     write_ranges(sink, plan.ranges.items())?;

@@ -53,3 +53,7 @@ pub record Reads (text : List ℕ) (rules : List Rule) : Type 0 where
   pub fill : ℕ
   pub line : IsFirstLine text name fill
   pub rules_are : rules ≡ first_rule name fill ∷ []
+
+-- the text says no rules: it has another form
+abbrev pub SaysNoRules : List ℕ → Type 0
+SaysNoRules text = (rules : List Rule) → ¬ (Reads text rules)

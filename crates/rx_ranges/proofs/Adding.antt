@@ -1,5 +1,5 @@
 -- One more range among the ranges of a set.
-use Rattle.std.proofs.Common.{◌≡◌, ℕ, zero, suc, ◌+◌, ◌-◌, ◌<◌, ◌≤◌, Bool, true, false, ◌&&◌, ◌||◌, cond, leb, ltb, nat_lt, min, max, if◌then◌else◌, List, [], ◌∷◌, ◌++◌, length, refl, sym, ◌∙◌, ap, subst, ⊎_elim, append_assoc, drop, get_or, arith, rules}
+use Rattle.std.proofs.Common.{◌≡◌, ℕ, ◌+◌, ◌<◌, ◌≤◌, Bool, true, false, ◌||◌, nat_lt, if◌then◌else◌, List, [], ◌∷◌, ◌++◌, length, refl, sym, ◌∙◌, ap, subst, ⊎_elim, append_assoc, drop, get_or, arith}
 use Rattle.std.proofs.lemmas.Bool.{cases_lt, lt-ltb, le-ltb}
 use Rattle.std.proofs.lemmas.Bool.Decides.{nat_tests}
 use Rattle.std.specs.List.{All}
@@ -14,8 +14,8 @@ unfoldable pub with_added : Range → List Range → List Range
 with_added added [] = added ∷ []
 with_added added (next ∷ ranges) =
     if nat_lt (next.at + next.len) added.at
-        then next ∷ with_added added ranges
-        else (if nat_lt (added.at + added.len) next.at then added ∷ with_added next ranges else with_added (hull added next) ranges)
+    then next ∷ with_added added ranges
+    else (if nat_lt (added.at + added.len) next.at then added ∷ with_added next ranges else with_added (hull added next) ranges)
 
 pub added-none : (added : Range) → with_added added [] ≡ added ∷ []
 unfolding with_added
@@ -73,16 +73,16 @@ pub covers-added : (added : Range) (ranges : List Range) (byte : ℕ) → covers
 covers-added added [] byte = rw (added-none added) (or-none (in_range added byte))
 covers-added added (next ∷ ranges) byte =
     ⊎_elim
-        (λ behind. rw (added-behind added next ranges behind)
-            (ap (λ (b : Bool). in_range next byte || b) (covers-added added ranges byte) ∙ or-swap (in_range next byte) (covers ranges byte) (in_range added byte)))
-        (λ begun. ⊎_elim
-            (λ before. rw (added-before added next ranges begun before)
-                (ap (λ (b : Bool). in_range added byte || b) (covers-added next ranges byte) ∙ or-first (in_range added byte) (covers ranges byte) (in_range next byte)))
-            (λ touches. rw (added-joins added next ranges begun touches)
-                (covers-added (hull added next) ranges byte ∙ ap (λ (b : Bool). covers ranges byte || b) (in_range-hull added next byte begun touches)
-                    ∙ or-last (in_range next byte) (covers ranges byte) (in_range added byte)))
-            (cases_lt (added.at + added.len) next.at))
-        (cases_lt (next.at + next.len) added.at)
+    (λ behind. rw (added-behind added next ranges behind)
+    (ap (λ (b : Bool). in_range next byte || b) (covers-added added ranges byte) ∙ or-swap (in_range next byte) (covers ranges byte) (in_range added byte)))
+    (λ begun. ⊎_elim
+    (λ before. rw (added-before added next ranges begun before)
+    (ap (λ (b : Bool). in_range added byte || b) (covers-added next ranges byte) ∙ or-first (in_range added byte) (covers ranges byte) (in_range next byte)))
+    (λ touches. rw (added-joins added next ranges begun touches)
+    (covers-added (hull added next) ranges byte ∙ ap (λ (b : Bool). covers ranges byte || b) (in_range-hull added next byte begun touches)
+    ∙ or-last (in_range next byte) (covers ranges byte) (in_range added byte)))
+    (cases_lt (added.at + added.len) next.at))
+    (cases_lt (next.at + next.len) added.at)
 
 behind_less : (byte end : ℕ) (ranges : List Range) → byte ≤ end → BeginsBehind end ranges → BeginsBehind byte ranges
 behind_less byte end [] less behind = tt
@@ -93,28 +93,28 @@ begins-added byte added [] less behind kept = rw (added-none added) less
 begins-added byte added (next ∷ ranges) less behind kept =
     let rest : BeginsBehind byte ranges = behind_less byte (next.at + next.len) ranges (omega (arith, behind)) kept.1 in
     ⊎_elim
-        (λ apart. rw (added-behind added next ranges apart) behind)
-        (λ begun. ⊎_elim
-            (λ before. rw (added-before added next ranges begun before) less)
-            (λ touches. rw (added-joins added next ranges begun touches)
-                (begins-added byte (hull added next) ranges (omega (arith, behind)) rest kept.2))
-            (cases_lt (added.at + added.len) next.at))
-        (cases_lt (next.at + next.len) added.at)
+    (λ apart. rw (added-behind added next ranges apart) behind)
+    (λ begun. ⊎_elim
+    (λ before. rw (added-before added next ranges begun before) less)
+    (λ touches. rw (added-joins added next ranges begun touches)
+    (begins-added byte (hull added next) ranges (omega (arith, behind)) rest kept.2))
+    (cases_lt (added.at + added.len) next.at))
+    (cases_lt (next.at + next.len) added.at)
 
 -- the ranges are in the kept form again
 pub kept-added : (added : Range) (ranges : List Range) → 0 < added.len → IsRangeList ranges → IsRangeList (with_added added ranges)
 kept-added added [] some kept = rw (added-none added) (some, tt, tt)
 kept-added added (next ∷ ranges) some kept =
     ⊎_elim
-        (λ behind. rw (added-behind added next ranges behind)
-            (kept.0, begins-added (next.at + next.len) added ranges behind kept.1 kept.2, kept-added added ranges some kept.2))
-        (λ begun. ⊎_elim
-            (λ before. rw (added-before added next ranges begun before)
-                (some, begins-added (added.at + added.len) next ranges before (behind_less (added.at + added.len) (next.at + next.len) ranges (omega arith) kept.1) kept.2, kept-added next ranges kept.0 kept.2))
-            (λ touches. rw (added-joins added next ranges begun touches)
-                (kept-added (hull added next) ranges (omega (arith, some)) kept.2))
-            (cases_lt (added.at + added.len) next.at))
-        (cases_lt (next.at + next.len) added.at)
+    (λ behind. rw (added-behind added next ranges behind)
+    (kept.0, begins-added (next.at + next.len) added ranges behind kept.1 kept.2, kept-added added ranges some kept.2))
+    (λ begun. ⊎_elim
+    (λ before. rw (added-before added next ranges begun before)
+    (some, begins-added (added.at + added.len) next ranges before (behind_less (added.at + added.len) (next.at + next.len) ranges (omega arith) kept.1) kept.2, kept-added next ranges kept.0 kept.2))
+    (λ touches. rw (added-joins added next ranges begun touches)
+    (kept-added (hull added next) ranges (omega (arith, some)) kept.2))
+    (cases_lt (added.at + added.len) next.at))
+    (cases_lt (next.at + next.len) added.at)
 
 -- what is written and what is still to be written are the whole, and no range passes what 63 bits count
 abbrev pub SoFar : List Range → List Range → List Range → Range → ℕ → Type 0
@@ -126,10 +126,10 @@ step : (whole ranges out out' : List Range) (added added' next pushed : Range) (
     → out ++ with_added added (drop i ranges) ≡ whole → out' ++ with_added added' (drop (i + 1) ranges) ≡ whole
 step whole ranges out out' added added' next pushed i wrote opened split so_far =
     ap (λ (xs : List Range). xs ++ with_added added' (drop (i + 1) ranges)) wrote
-        ∙ append_assoc out (pushed ∷ []) (with_added added' (drop (i + 1) ranges))
-        ∙ ap (λ (xs : List Range). out ++ xs) (sym opened)
-        ∙ ap (λ (xs : List Range). out ++ with_added added xs) (sym split)
-        ∙ so_far
+    ∙ append_assoc out (pushed ∷ []) (with_added added' (drop (i + 1) ranges))
+    ∙ ap (λ (xs : List Range). out ++ xs) (sym opened)
+    ∙ ap (λ (xs : List Range). out ++ with_added added xs) (sym split)
+    ∙ so_far
 
 pub so_far-behind : (whole ranges out out' : List Range) (added added' d : Range) (i : ℕ) → SoFar whole ranges out added i → All EndsInReach ranges
     → i < length ranges → (get_or ranges i d).at + (get_or ranges i d).len < added.at → out' ≡ out ++ get_or ranges i d ∷ [] → added' ≡ added
@@ -137,10 +137,11 @@ pub so_far-behind : (whole ranges out out' : List Range) (added added' d : Range
 so_far-behind whole ranges out out' added added' d i so_far reach within behind wrote kept =
     let next : Range = get_or ranges i d in
     let opened : with_added added (next ∷ drop (i + 1) ranges) ≡ next ∷ with_added added' (drop (i + 1) ranges) =
-        added-behind added next (drop (i + 1) ranges) behind ∙ ap (λ (r : Range). next ∷ with_added r (drop (i + 1) ranges)) (sym kept) in
-    (step whole ranges out out' added added' next next i wrote opened (drop_more ranges i d within) so_far.0,
-    subst EndsInReach (sym kept) so_far.1,
-    All-same EndsInReach out' (out ++ next ∷ []) wrote (All-push EndsInReach out next so_far.2 (All-get_or EndsInReach ranges i d within reach)))
+    added-behind added next (drop (i + 1) ranges) behind ∙ ap (λ (r : Range). next ∷ with_added r (drop (i + 1) ranges)) (sym kept) in (
+      step whole ranges out out' added added' next next i wrote opened (drop_more ranges i d within) so_far.0,
+      subst EndsInReach (sym kept) so_far.1,
+      All-same EndsInReach out' (out ++ next ∷ []) wrote (All-push EndsInReach out next so_far.2 (All-get_or EndsInReach ranges i d within reach)),
+    )
 
 pub so_far-before : (whole ranges out out' : List Range) (added added' d : Range) (i : ℕ) → SoFar whole ranges out added i → All EndsInReach ranges
     → i < length ranges → added.at ≤ (get_or ranges i d).at + (get_or ranges i d).len → added.at + added.len < (get_or ranges i d).at
@@ -148,10 +149,11 @@ pub so_far-before : (whole ranges out out' : List Range) (added added' d : Range
 so_far-before whole ranges out out' added added' d i so_far reach within begun before wrote taken =
     let next : Range = get_or ranges i d in
     let opened : with_added added (next ∷ drop (i + 1) ranges) ≡ added ∷ with_added added' (drop (i + 1) ranges) =
-        added-before added next (drop (i + 1) ranges) begun before ∙ ap (λ (r : Range). added ∷ with_added r (drop (i + 1) ranges)) (sym taken) in
-    (step whole ranges out out' added added' next added i wrote opened (drop_more ranges i d within) so_far.0,
-    subst EndsInReach (sym taken) (All-get_or EndsInReach ranges i d within reach),
-    All-same EndsInReach out' (out ++ added ∷ []) wrote (All-push EndsInReach out added so_far.2 so_far.1))
+    added-before added next (drop (i + 1) ranges) begun before ∙ ap (λ (r : Range). added ∷ with_added r (drop (i + 1) ranges)) (sym taken) in (
+      step whole ranges out out' added added' next added i wrote opened (drop_more ranges i d within) so_far.0,
+      subst EndsInReach (sym taken) (All-get_or EndsInReach ranges i d within reach),
+      All-same EndsInReach out' (out ++ added ∷ []) wrote (All-push EndsInReach out added so_far.2 so_far.1),
+    )
 
 pub so_far-joins : (whole ranges out out' : List Range) (added added' d : Range) (i : ℕ) → SoFar whole ranges out added i → All EndsInReach ranges
     → i < length ranges → added.at ≤ (get_or ranges i d).at + (get_or ranges i d).len → (get_or ranges i d).at ≤ added.at + added.len
@@ -159,14 +161,15 @@ pub so_far-joins : (whole ranges out out' : List Range) (added added' d : Range)
 so_far-joins whole ranges out out' added added' d i so_far reach within begun touches same joined =
     let next : Range = get_or ranges i d in
     let next_reach : EndsInReach next = All-get_or EndsInReach ranges i d within reach in
-    let hull_reach : EndsInReach (hull added next) = omega (arith, so_far.1) in
-    (ap (λ (xs : List Range). xs ++ with_added added' (drop (i + 1) ranges)) same
-        ∙ ap (λ (r : Range). out ++ with_added r (drop (i + 1) ranges)) joined
-        ∙ ap (λ (xs : List Range). out ++ xs) (sym (added-joins added next (drop (i + 1) ranges) begun touches))
-        ∙ ap (λ (xs : List Range). out ++ with_added added xs) (sym (drop_more ranges i d within))
-        ∙ so_far.0,
-    subst EndsInReach (sym joined) hull_reach,
-    All-same EndsInReach out' out same so_far.2)
+    let hull_reach : EndsInReach (hull added next) = omega (arith, so_far.1) in (
+      ap (λ (xs : List Range). xs ++ with_added added' (drop (i + 1) ranges)) same
+          ∙ ap (λ (r : Range). out ++ with_added r (drop (i + 1) ranges)) joined
+          ∙ ap (λ (xs : List Range). out ++ xs) (sym (added-joins added next (drop (i + 1) ranges) begun touches))
+          ∙ ap (λ (xs : List Range). out ++ with_added added xs) (sym (drop_more ranges i d within))
+          ∙ so_far.0,
+      subst EndsInReach (sym joined) hull_reach,
+      All-same EndsInReach out' out same so_far.2,
+    )
 
 -- behind the last range, what is written with the added range is the whole
 pub so_far-done : (whole ranges out out' : List Range) (added : Range) (i : ℕ) → SoFar whole ranges out added i → length ranges ≤ i

@@ -1,8 +1,7 @@
 -- Claims of one rule have one fill, and the claims taken so far.
-use Rattle.std.proofs.Common.{◌≡◌, ℕ, zero, suc, ◌+◌, ◌<◌, ◌≤◌, Bool, true, false, ◌==◌, if◌then◌else◌, cond, List, [], ◌∷◌, length, take, get_or, refl, sym, ◌∙◌, ap, ⊎_elim, arith}
+use Rattle.std.proofs.Common.{◌≡◌, ℕ, suc, ◌+◌, ◌<◌, ◌==◌, if◌then◌else◌, List, [], ◌∷◌, length, take, get_or, refl, sym, ◌∙◌, ap, ⊎_elim, arith}
 use Rattle.std.specs.List.{All}
-use Rattle.std.proofs.lemmas.List.{take_all}
-use Rattle.std.proofs.lemmas.List.Elements.{All-nil, All-cons, All-get_or}
+use Rattle.std.proofs.lemmas.List.Elements.{All-nil, All-cons}
 use Rattle.std.proofs.lemmas.Bool.{cases_eq, eq-eqb, ne_eqb}
 use Rattle.range_defs.specs.declared.Claim.{Claim}
 use Rattle.range_defs.specs.Places.{EndsInReach}
@@ -29,17 +28,17 @@ one_fill-tail claim claims one = λ i j d before within. one (suc i) (suc j) d (
 later-has : (claim : Claim) (claims : List Claim) (x : Claim) → (claim.rule ≡ x.rule → claim.fill ≡ x.fill) → HasFill (fill_of claims) x → HasFill (fill_of (claim ∷ claims)) x
 later-has claim claims x one has =
     ⊎_elim
-        (λ same. sym (one same) ∙ sym (fill-first claim claims x.rule same))
-        (λ other. has ∙ sym (fill-later claim claims x.rule other))
-        (cases_eq claim.rule x.rule)
+    (λ same. sym (one same) ∙ sym (fill-first claim claims x.rule same))
+    (λ other. has ∙ sym (fill-later claim claims x.rule other))
+    (cases_eq claim.rule x.rule)
 
 -- each claim has the fill of its rule
 pub all-have : (claims : List Claim) → HaveOneFill claims → All (HasFill (fill_of claims)) claims
 all-have [] one = All-nil (HasFill (fill_of []))
 all-have (claim ∷ claims) one =
     All-cons (HasFill (fill_of (claim ∷ claims))) claim claims (sym (fill-first claim claims claim.rule refl))
-        (λ k d within. later-has claim claims (get_or claims k d) (λ same. one 0 (suc k) d (omega arith) (omega arith) same)
-            (all-have claims (one_fill-tail claim claims one) k d within))
+    (λ k d within. later-has claim claims (get_or claims k d) (λ same. one 0 (suc k) d (omega arith) (omega arith) same)
+    (all-have claims (one_fill-tail claim claims one) k d within))
 
 -- the claims that lie apart give each byte what the first so many claims give it
 abbrev pub Laid : List Claim → List Claim → ℕ → Type 0
@@ -49,9 +48,9 @@ Laid claims laid i = AreApart 0 laid × All (λ (claim : Claim). EndsInReach cla
 pub laid-more : (claims laid laid' : List Claim) (i : ℕ) (d : Claim) → Laid claims laid i → i < length claims → AreApart 0 laid'
     → All (λ (claim : Claim). EndsInReach claim.range) laid' → All (HasFill (fill_of claims)) laid'
     → ((byte : ℕ) → painted laid' byte ≡ lesser_paint (painted laid byte) (paint_of (get_or claims i d) byte)) → Laid claims laid' (i + 1)
-laid-more claims laid laid' i d so_far within apart reach have added =
-    (apart, reach, have,
-    λ byte. added byte ∙ ap (λ paint. lesser_paint paint (paint_of (get_or claims i d) byte)) (so_far.3 byte) ∙ sym (painted-take claims i d byte within))
-
-pub laid-all : (claims laid : List Claim) (i byte : ℕ) → Laid claims laid i → length claims ≤ i → painted laid byte ≡ painted claims byte
-laid-all claims laid i byte so_far done = so_far.3 byte ∙ ap (λ (xs : List Claim). painted xs byte) (take_all i claims done)
+laid-more claims laid laid' i d so_far within apart reach have added = (
+  apart,
+  reach,
+  have,
+  λ byte. added byte ∙ ap (λ paint. lesser_paint paint (paint_of (get_or claims i d) byte)) (so_far.3 byte) ∙ sym (painted-take claims i d byte within),
+)

@@ -1,7 +1,7 @@
 -- The bytes of the first so many ranges.
-use Rattle.std.proofs.Common.{◌≡◌, ℕ, ◌+◌, ◌<◌, ◌≤◌, Bool, true, false, ◌||◌, List, [], ◌∷◌, ◌++◌, length, take, get_or, refl, sym, ◌∙◌, ap, arith}
+use Rattle.std.proofs.Common.{◌≡◌, ℕ, ◌+◌, ◌<◌, Bool, true, false, ◌||◌, List, [], ◌∷◌, ◌++◌, length, take, get_or, refl, sym, ◌∙◌, ap, arith}
 use Rattle.std.specs.List.{All}
-use Rattle.std.proofs.lemmas.List.{take_more, take_all}
+use Rattle.std.proofs.lemmas.List.{take_more}
 use Rattle.std.proofs.lemmas.Bool.Decides.{nat_tests}
 use Rattle.range_defs.specs.declared.Range.{Range}
 use Rattle.range_defs.specs.Places.{in_range, covers, IsRangeList, EndsInReach}
@@ -23,8 +23,8 @@ covers-take : (ranges : List Range) (i : ℕ) (d : Range) (byte : ℕ) → i < l
     → covers (take (i + 1) ranges) byte ≡ (covers (take i ranges) byte || in_range (get_or ranges i d) byte)
 covers-take ranges i d byte within =
     ap (λ (xs : List Range). covers xs byte) (take_more ranges i d within)
-        ∙ covers-append (take i ranges) (get_or ranges i d ∷ []) byte
-        ∙ ap (λ (t : Bool). covers (take i ranges) byte || t) (or_none (in_range (get_or ranges i d) byte))
+    ∙ covers-append (take i ranges) (get_or ranges i d ∷ []) byte
+    ∙ ap (λ (t : Bool). covers (take i ranges) byte || t) (or_none (in_range (get_or ranges i d) byte))
 
 -- the ranges in the kept form have the bytes of the first so many
 abbrev pub Gathered : List Range → List Range → ℕ → Type 0
@@ -33,9 +33,11 @@ Gathered ranges kept i = IsRangeList kept × All EndsInReach kept × ((byte : �
 pub gathered-more : (ranges kept kept' : List Range) (i : ℕ) (d : Range) → Gathered ranges kept i → i < length ranges
     → ((byte : ℕ) → covers kept' byte ≡ (covers kept byte || in_range (get_or ranges i d) byte)) → IsRangeList kept' → All EndsInReach kept'
     → Gathered ranges kept' (i + 1)
-gathered-more ranges kept kept' i d so_far within added is_kept reach =
-    (is_kept, reach,
-    λ byte. added byte ∙ ap (λ (t : Bool). t || in_range (get_or ranges i d) byte) (so_far.2 byte) ∙ sym (covers-take ranges i d byte within))
+gathered-more ranges kept kept' i d so_far within added is_kept reach = (
+  is_kept,
+  reach,
+  λ byte. added byte ∙ ap (λ (t : Bool). t || in_range (get_or ranges i d) byte) (so_far.2 byte) ∙ sym (covers-take ranges i d byte within),
+)
 
 in_range-empty : (range : Range) (byte : ℕ) → range.len ≡ 0 → in_range range byte ≡ false
 in_range-empty range byte empty = grind (arith, nat_tests)
@@ -43,11 +45,10 @@ in_range-empty range byte empty = grind (arith, nat_tests)
 -- an empty range adds no byte
 pub gathered-same : (ranges kept : List Range) (i : ℕ) (d : Range) → Gathered ranges kept i → i < length ranges → (get_or ranges i d).len ≡ 0
     → Gathered ranges kept (i + 1)
-gathered-same ranges kept i d so_far within empty =
-    (so_far.0, so_far.1,
-    λ byte. so_far.2 byte ∙ sym (or_none (covers (take i ranges) byte))
-        ∙ ap (λ (t : Bool). covers (take i ranges) byte || t) (sym (in_range-empty (get_or ranges i d) byte empty))
-        ∙ sym (covers-take ranges i d byte within))
-
-pub gathered-all : (ranges kept : List Range) (i : ℕ) → Gathered ranges kept i → length ranges ≤ i → (byte : ℕ) → covers kept byte ≡ covers ranges byte
-gathered-all ranges kept i so_far done byte = so_far.2 byte ∙ ap (λ (xs : List Range). covers xs byte) (take_all i ranges done)
+gathered-same ranges kept i d so_far within empty = (
+  so_far.0,
+  so_far.1,
+  λ byte. so_far.2 byte ∙ sym (or_none (covers (take i ranges) byte))
+      ∙ ap (λ (t : Bool). covers (take i ranges) byte || t) (sym (in_range-empty (get_or ranges i d) byte empty))
+      ∙ sym (covers-take ranges i d byte within),
+)

@@ -1,10 +1,8 @@
 -- Claims that lie apart, with those joined that touch and have one rule.
-use Rattle.std.proofs.Common.{◌≡◌, ◌≢◌, ℕ, ◌+◌, ◌<◌, ◌≤◌, Bool, true, false, ◌&&◌, ◌==◌, if◌then◌else◌, eqb, cond, Option, Some, None, List, [], ◌∷◌, ◌++◌, length, drop, get_or, refl, sym, ◌∙◌, ap, subst, ⊎_elim, append_assoc, arith}
+use Rattle.std.proofs.Common.{◌≡◌, ◌≢◌, ℕ, ◌+◌, ◌<◌, ◌≤◌, Bool, true, false, ◌&&◌, ◌==◌, if◌then◌else◌, Option, Some, List, [], ◌∷◌, refl, sym, ◌∙◌, ap, subst, ⊎_elim, arith}
 use Rattle.std.specs.List.{All}
-use Rattle.std.proofs.lemmas.List.{drop_more, drop_all}
-use Rattle.std.proofs.lemmas.List.Elements.{All-head, All-tail, All-cons}
+use Rattle.std.proofs.lemmas.List.Elements.{All-head, All-tail}
 use Rattle.std.proofs.lemmas.Bool.{cases_lt, cases_Bool, and_parts, and_from, eqb-true, eq-eqb, ne_eqb, and_right, false≢true}
-use Rattle.std.proofs.lemmas.Bool.Decides.{nat_tests}
 use Rattle.range_defs.specs.declared.Claim.{Claim}
 use Rattle.range_defs.specs.Claims.{paint_of, lesser_paint, painted, BeginsApart, IsFillMap}
 use Rattle.range_defs.specs.RangeLaws.{in_range-before, in_range-behind, in_range-inside}
@@ -45,28 +43,28 @@ grown-paint : (last next : Claim) (byte : ℕ) (rest : Option (ℕ × ℕ)) → 
     → lesser_paint (paint_of (grown last next) byte) rest ≡ lesser_paint (paint_of last byte) (lesser_paint (paint_of next byte) rest)
 grown-paint last next byte rest rule fill touches =
     ⊎_elim
-        (λ first. ⊎_elim
-            (λ before.
-                ap (λ paint. lesser_paint paint rest) (paint_of-out (grown last next) byte (in_range-before (grown last next).range byte before))
-                ∙ sym (ap (λ paint. lesser_paint paint (lesser_paint (paint_of next byte) rest)) (paint_of-out last byte (in_range-before last.range byte before))
-                    ∙ ap (λ paint. lesser_paint paint rest) (paint_of-out next byte (in_range-before next.range byte (omega arith)))))
-            (λ begun.
-                ap (λ paint. lesser_paint paint rest) (paint_of-in (grown last next) byte (in_range-inside (grown last next).range byte begun (omega arith)))
-                ∙ sym (ap (λ paint. lesser_paint paint (lesser_paint (paint_of next byte) rest)) (paint_of-in last byte (in_range-inside last.range byte begun (omega arith)))
-                    ∙ ap (λ paint. lesser_paint (Some (last.rule, last.fill)) (lesser_paint paint rest)) (paint_of-out next byte (in_range-before next.range byte first))))
-            (cases_lt byte last.range.at))
-        (λ second. ⊎_elim
-            (λ inside.
-                ap (λ paint. lesser_paint paint rest) (paint_of-in (grown last next) byte (in_range-inside (grown last next).range byte (omega arith) (omega arith)))
-                ∙ ap (λ paint. lesser_paint paint rest) (ap Some (sym (pair_same rule fill)))
-                ∙ sym (ap (λ paint. lesser_paint paint (lesser_paint (paint_of next byte) rest)) (paint_of-out last byte (in_range-behind last.range byte (omega arith)))
-                    ∙ ap (λ paint. lesser_paint paint rest) (paint_of-in next byte (in_range-inside next.range byte second inside))))
-            (λ past.
-                ap (λ paint. lesser_paint paint rest) (paint_of-out (grown last next) byte (in_range-behind (grown last next).range byte (omega arith)))
-                ∙ sym (ap (λ paint. lesser_paint paint (lesser_paint (paint_of next byte) rest)) (paint_of-out last byte (in_range-behind last.range byte (omega arith)))
-                    ∙ ap (λ paint. lesser_paint paint rest) (paint_of-out next byte (in_range-behind next.range byte past))))
-            (cases_lt byte (next.range.at + next.range.len)))
-        (cases_lt byte next.range.at)
+    (λ first. ⊎_elim
+    (λ before.
+    ap (λ paint. lesser_paint paint rest) (paint_of-out (grown last next) byte (in_range-before (grown last next).range byte before))
+    ∙ sym (ap (λ paint. lesser_paint paint (lesser_paint (paint_of next byte) rest)) (paint_of-out last byte (in_range-before last.range byte before))
+    ∙ ap (λ paint. lesser_paint paint rest) (paint_of-out next byte (in_range-before next.range byte (omega arith)))))
+    (λ begun.
+    ap (λ paint. lesser_paint paint rest) (paint_of-in (grown last next) byte (in_range-inside (grown last next).range byte begun (omega arith)))
+    ∙ sym (ap (λ paint. lesser_paint paint (lesser_paint (paint_of next byte) rest)) (paint_of-in last byte (in_range-inside last.range byte begun (omega arith)))
+    ∙ ap (λ paint. lesser_paint (Some (last.rule, last.fill)) (lesser_paint paint rest)) (paint_of-out next byte (in_range-before next.range byte first))))
+    (cases_lt byte last.range.at))
+    (λ second. ⊎_elim
+    (λ inside.
+    ap (λ paint. lesser_paint paint rest) (paint_of-in (grown last next) byte (in_range-inside (grown last next).range byte (omega arith) (omega arith)))
+    ∙ ap (λ paint. lesser_paint paint rest) (ap Some (sym (pair_same rule fill)))
+    ∙ sym (ap (λ paint. lesser_paint paint (lesser_paint (paint_of next byte) rest)) (paint_of-out last byte (in_range-behind last.range byte (omega arith)))
+    ∙ ap (λ paint. lesser_paint paint rest) (paint_of-in next byte (in_range-inside next.range byte second inside))))
+    (λ past.
+    ap (λ paint. lesser_paint paint rest) (paint_of-out (grown last next) byte (in_range-behind (grown last next).range byte (omega arith)))
+    ∙ sym (ap (λ paint. lesser_paint paint (lesser_paint (paint_of next byte) rest)) (paint_of-out last byte (in_range-behind last.range byte (omega arith)))
+    ∙ ap (λ paint. lesser_paint paint rest) (paint_of-out next byte (in_range-behind next.range byte past))))
+    (cases_lt byte (next.range.at + next.range.len)))
+    (cases_lt byte next.range.at)
 
 -- the same bytes are claimed
 pub painted-joined : (fill : ℕ → ℕ) (last : Claim) (laid : List Claim) (byte : ℕ) → HasFill fill last → All (HasFill fill) laid
@@ -76,51 +74,52 @@ painted-joined fill last (next ∷ laid) byte has have =
     let next_has : HasFill fill next = All-head (HasFill fill) next laid have in
     let rest_have : All (HasFill fill) laid = All-tail (HasFill fill) next laid have in
     ⊎_elim
-        (λ touches. let both = and_parts (next.rule == last.rule) (next.range.at == last.range.at + last.range.len) touches in
-            let rule : next.rule ≡ last.rule = eqb-true next.rule last.rule both.0 in
-            let same_fill : next.fill ≡ last.fill = next_has ∙ ap fill rule ∙ sym has in
-            ap (λ (xs : List Claim). painted xs byte) (joined-grows last next laid touches)
-            ∙ painted-joined fill (grown last next) laid byte has rest_have
-            ∙ grown-paint last next byte (painted laid byte) rule same_fill (eqb-true next.range.at (last.range.at + last.range.len) both.1))
-        (λ apart. ap (λ (xs : List Claim). painted xs byte) (joined-apart last next laid apart)
-            ∙ ap (λ paint. lesser_paint (paint_of last byte) paint) (painted-joined fill next laid byte next_has rest_have))
-        (cases_Bool (joins last next))
+    (λ touches. let both = and_parts (next.rule == last.rule) (next.range.at == last.range.at + last.range.len) touches in
+    let rule : next.rule ≡ last.rule = eqb-true next.rule last.rule both.0 in
+    let same_fill : next.fill ≡ last.fill = next_has ∙ ap fill rule ∙ sym has in
+    ap (λ (xs : List Claim). painted xs byte) (joined-grows last next laid touches)
+    ∙ painted-joined fill (grown last next) laid byte has rest_have
+    ∙ grown-paint last next byte (painted laid byte) rule same_fill (eqb-true next.range.at (last.range.at + last.range.len) both.1))
+    (λ apart. ap (λ (xs : List Claim). painted xs byte) (joined-apart last next laid apart)
+    ∙ ap (λ paint. lesser_paint (paint_of last byte) paint) (painted-joined fill next laid byte next_has rest_have))
+    (cases_Bool (joins last next))
 
 -- where the joined claims begin
 begins-joined : (byte rule : ℕ) (last : Claim) (laid : List Claim) → byte ≤ last.range.at → (byte ≡ last.range.at → rule ≢ last.rule) → BeginsApart byte rule (joined_to last laid)
 begins-joined byte rule last [] begins apart = rw (joined-none last) (begins, apart)
 begins-joined byte rule last (next ∷ laid) begins apart =
     ⊎_elim
-        (λ touches. rw (joined-grows last next laid touches) (begins-joined byte rule (grown last next) laid begins apart))
-        (λ away. rw (joined-apart last next laid away) (begins, apart))
-        (cases_Bool (joins last next))
+    (λ touches. rw (joined-grows last next laid touches) (begins-joined byte rule (grown last next) laid begins apart))
+    (λ away. rw (joined-apart last next laid away) (begins, apart))
+    (cases_Bool (joins last next))
 
 -- two claims that are not joined do not touch, or have two rules
 away_of : (last next : Claim) → joins last next ≡ false → last.range.at + last.range.len ≡ next.range.at → last.rule ≡ next.rule → ⊥
 away_of last next away at rule =
     false≢true (sym away ∙ and_from (next.rule == last.rule) (next.range.at == last.range.at + last.range.len)
-        (eq-eqb next.rule last.rule (sym rule)) (eq-eqb next.range.at (last.range.at + last.range.len) (sym at)))
+    (eq-eqb next.rule last.rule (sym rule)) (eq-eqb next.range.at (last.range.at + last.range.len) (sym at)))
 
 -- they are in the kept form
 pub kept-joined : (last : Claim) (laid : List Claim) → 0 < last.range.len → AreApart (last.range.at + last.range.len) laid → IsFillMap (joined_to last laid)
 kept-joined last [] some apart = rw (joined-none last) (some, tt, tt)
 kept-joined last (next ∷ laid) some apart =
     ⊎_elim
-        (λ touches. let both = and_parts (next.rule == last.rule) (next.range.at == last.range.at + last.range.len) touches in
-            let at : next.range.at ≡ last.range.at + last.range.len = eqb-true next.range.at (last.range.at + last.range.len) both.1 in
-            let end : next.range.at + next.range.len ≡ last.range.at + (last.range.len + next.range.len) = omega arith in
-            rw (joined-grows last next laid touches)
-                (kept-joined (grown last next) laid (omega (arith, some)) (subst (λ (byte : ℕ). AreApart byte laid) end apart.2)))
-        (λ away. rw (joined-apart last next laid away)
-            (some,
-            begins-joined (last.range.at + last.range.len) last.rule next laid apart.0 (λ at rule. away_of last next away at rule),
-            kept-joined next laid apart.1 apart.2))
-        (cases_Bool (joins last next))
+    (λ touches. let both = and_parts (next.rule == last.rule) (next.range.at == last.range.at + last.range.len) touches in
+    let at : next.range.at ≡ last.range.at + last.range.len = eqb-true next.range.at (last.range.at + last.range.len) both.1 in
+    let end : next.range.at + next.range.len ≡ last.range.at + (last.range.len + next.range.len) = omega arith in
+    rw (joined-grows last next laid touches)
+    (kept-joined (grown last next) laid (omega (arith, some)) (subst (λ (byte : ℕ). AreApart byte laid) end apart.2)))
+    (λ away. rw (joined-apart last next laid away) (
+      some,
+      begins-joined (last.range.at + last.range.len) last.rule next laid apart.0 (λ at rule. away_of last next away at rule),
+      kept-joined next laid apart.1 apart.2,
+    ))
+    (cases_Bool (joins last next))
 
 pub joins-both : (last next : Claim) → next.rule ≡ last.rule → next.range.at ≡ last.range.at + last.range.len → joins last next ≡ true
 joins-both last next rule at =
     and_from (next.rule == last.rule) (next.range.at == last.range.at + last.range.len)
-        (eq-eqb next.rule last.rule rule) (eq-eqb next.range.at (last.range.at + last.range.len) at)
+    (eq-eqb next.rule last.rule rule) (eq-eqb next.range.at (last.range.at + last.range.len) at)
 
 pub joins-rule : (last next : Claim) → next.rule ≢ last.rule → joins last next ≡ false
 joins-rule last next rule = ap (λ (b : Bool). b && next.range.at == last.range.at + last.range.len) (ne_eqb next.rule last.rule rule)

@@ -1,6 +1,6 @@
 -- The least byte that two sets share.
-use Rattle.std.proofs.Common.{◌≡◌, ℕ, ◌+◌, ◌-◌, ◌<◌, ◌≤◌, Bool, true, false, ◌&&◌, max, Option, Some, None, List, [], ◌∷◌, length, drop, get_or, refl, sym, ◌∙◌, ap, subst, ⊎_elim, arith}
-use Rattle.std.proofs.lemmas.List.{drop_more, drop_all}
+use Rattle.std.proofs.Common.{◌≡◌, ℕ, ◌+◌, ◌-◌, ◌<◌, ◌≤◌, Bool, true, false, ◌&&◌, max, Option, Some, None, List, ◌∷◌, length, drop, get_or, refl, sym, ◌∙◌, ap, subst, ⊎_elim, arith}
+use Rattle.std.proofs.lemmas.List.{drop_more}
 use Rattle.std.proofs.lemmas.Bool.{cases_lt}
 use Rattle.range_defs.specs.declared.Range.{Range}
 use Rattle.range_defs.specs.Places.{covers, IsRangeList, IsLeast}
@@ -29,19 +29,19 @@ skip-first : (mine theirs : Range) (a b : List Range) (byte : ℕ) → mine.at +
     → both (mine ∷ a) (theirs ∷ b) byte ≡ both a (theirs ∷ b) byte
 skip-first mine theirs a b byte apart kept =
     ⊎_elim
-        (λ before. let out : covers (theirs ∷ b) byte ≡ false = covers-before (theirs ∷ b) byte kept before in
-            both-second (mine ∷ a) (theirs ∷ b) byte out ∙ sym (both-second a (theirs ∷ b) byte out))
-        (λ behind. ap (λ (t : Bool). t && covers (theirs ∷ b) byte) (covers-after mine a byte (omega arith)))
-        (cases_lt byte theirs.at)
+    (λ before. let out : covers (theirs ∷ b) byte ≡ false = covers-before (theirs ∷ b) byte kept before in
+    both-second (mine ∷ a) (theirs ∷ b) byte out ∙ sym (both-second a (theirs ∷ b) byte out))
+    (λ behind. ap (λ (t : Bool). t && covers (theirs ∷ b) byte) (covers-after mine a byte (omega arith)))
+    (cases_lt byte theirs.at)
 
 skip-second : (mine theirs : Range) (a b : List Range) (byte : ℕ) → theirs.at + theirs.len ≤ mine.at → IsRangeList (mine ∷ a)
     → both (mine ∷ a) (theirs ∷ b) byte ≡ both (mine ∷ a) b byte
 skip-second mine theirs a b byte apart kept =
     ⊎_elim
-        (λ before. let out : covers (mine ∷ a) byte ≡ false = covers-before (mine ∷ a) byte kept before in
-            both-first (mine ∷ a) (theirs ∷ b) byte out ∙ sym (both-first (mine ∷ a) b byte out))
-        (λ behind. ap (λ (t : Bool). covers (mine ∷ a) byte && t) (covers-after theirs b byte (omega arith)))
-        (cases_lt byte mine.at)
+    (λ before. let out : covers (mine ∷ a) byte ≡ false = covers-before (mine ∷ a) byte kept before in
+    both-first (mine ∷ a) (theirs ∷ b) byte out ∙ sym (both-first (mine ∷ a) b byte out))
+    (λ behind. ap (λ (t : Bool). covers (mine ∷ a) byte && t) (covers-after theirs b byte (omega arith)))
+    (cases_lt byte mine.at)
 
 -- where the first ranges of both share the later one's first byte, that is the least
 found-here : (mine theirs : Range) (a b : List Range) → IsRangeList (mine ∷ a) → IsRangeList (theirs ∷ b)
@@ -50,12 +50,13 @@ found-here : (mine theirs : Range) (a b : List Range) → IsRangeList (mine ∷ 
 found-here mine theirs a b kept_mine kept_theirs in_mine in_theirs =
     let at : ℕ = max mine.at theirs.at in
     let first : covers (mine ∷ a) at ≡ true = covers-inside mine a at (omega arith) (omega arith) in
-    let second : covers (theirs ∷ b) at ≡ true = covers-inside theirs b at (omega arith) (omega arith) in
-    (ap (λ (t : Bool). t && covers (theirs ∷ b) at) first ∙ second,
-    λ byte low. ⊎_elim
-        (λ before. both-first (mine ∷ a) (theirs ∷ b) byte (covers-before (mine ∷ a) byte kept_mine before))
-        (λ behind. both-second (mine ∷ a) (theirs ∷ b) byte (covers-before (theirs ∷ b) byte kept_theirs (omega arith)))
-        (cases_lt byte mine.at))
+    let second : covers (theirs ∷ b) at ≡ true = covers-inside theirs b at (omega arith) (omega arith) in (
+      ap (λ (t : Bool). t && covers (theirs ∷ b) at) first ∙ second,
+      λ byte low. ⊎_elim
+          (λ before. both-first (mine ∷ a) (theirs ∷ b) byte (covers-before (mine ∷ a) byte kept_mine before))
+          (λ behind. both-second (mine ∷ a) (theirs ∷ b) byte (covers-before (theirs ∷ b) byte kept_theirs (omega arith)))
+          (cases_lt byte mine.at),
+    )
 
 -- a test that passes the same bytes has the same least one
 least-same : (p q : ℕ → Bool) (answer : Option ℕ) → ((byte : ℕ) → p byte ≡ q byte) → IsLeast q answer → IsLeast p answer
@@ -79,39 +80,35 @@ both-opened : (a b : List Range) (left right : ℕ) (mine theirs : Range) (byte 
     → both (drop left a) (drop right b) byte ≡ both (mine ∷ drop (left + 1) a) (theirs ∷ drop (right + 1) b) byte
 both-opened a b left right mine theirs byte at =
     ap (λ (xs : List Range). both xs (drop right b) byte) (opened a left mine at.0 at.1)
-        ∙ ap (λ (ys : List Range). both (mine ∷ drop (left + 1) a) ys byte) (opened b right theirs at.2 at.3)
+    ∙ ap (λ (ys : List Range). both (mine ∷ drop (left + 1) a) ys byte) (opened b right theirs at.2 at.3)
 
 pub left-skips : (a b : List Range) (left right : ℕ) (mine theirs : Range) → Left a b left right → At a b left right mine theirs
     → mine.len ≤ max mine.at theirs.at - mine.at → Left a b (left + 1) right
 left-skips a b left right mine theirs so_far at apart =
     let first = mine-kept a b left right mine theirs so_far at in
-    let second = theirs-kept a b left right mine theirs so_far at in
-    (first.2, so_far.1,
-    λ byte. so_far.2 byte ∙ both-opened a b left right mine theirs byte at
-        ∙ skip-first mine theirs (drop (left + 1) a) (drop (right + 1) b) byte (omega (arith, first.0)) second
-        ∙ ap (λ (ys : List Range). both (drop (left + 1) a) ys byte) (sym (opened b right theirs at.2 at.3)))
+    let second = theirs-kept a b left right mine theirs so_far at in (
+      first.2,
+      so_far.1,
+      λ byte. so_far.2 byte ∙ both-opened a b left right mine theirs byte at
+          ∙ skip-first mine theirs (drop (left + 1) a) (drop (right + 1) b) byte (omega (arith, first.0)) second
+          ∙ ap (λ (ys : List Range). both (drop (left + 1) a) ys byte) (sym (opened b right theirs at.2 at.3)),
+    )
 
 pub right-skips : (a b : List Range) (left right : ℕ) (mine theirs : Range) → Left a b left right → At a b left right mine theirs
     → theirs.len ≤ max mine.at theirs.at - theirs.at → Left a b left (right + 1)
 right-skips a b left right mine theirs so_far at apart =
     let first = mine-kept a b left right mine theirs so_far at in
-    let second = theirs-kept a b left right mine theirs so_far at in
-    (so_far.0, second.2,
-    λ byte. so_far.2 byte ∙ both-opened a b left right mine theirs byte at
-        ∙ skip-second mine theirs (drop (left + 1) a) (drop (right + 1) b) byte (omega (arith, second.0)) first
-        ∙ ap (λ (xs : List Range). both xs (drop (right + 1) b) byte) (sym (opened a left mine at.0 at.1)))
+    let second = theirs-kept a b left right mine theirs so_far at in (
+      so_far.0,
+      second.2,
+      λ byte. so_far.2 byte ∙ both-opened a b left right mine theirs byte at
+          ∙ skip-second mine theirs (drop (left + 1) a) (drop (right + 1) b) byte (omega (arith, second.0)) first
+          ∙ ap (λ (xs : List Range). both xs (drop (right + 1) b) byte) (sym (opened a left mine at.0 at.1)),
+    )
 
 pub found : (a b : List Range) (left right : ℕ) (mine theirs : Range) → Left a b left right → At a b left right mine theirs
     → max mine.at theirs.at - mine.at < mine.len → max mine.at theirs.at - theirs.at < theirs.len → IsLeast (both a b) (Some (max mine.at theirs.at))
 found a b left right mine theirs so_far at in_mine in_theirs =
     least-same (both a b) (both (mine ∷ drop (left + 1) a) (theirs ∷ drop (right + 1) b)) (Some (max mine.at theirs.at))
-        (λ byte. so_far.2 byte ∙ both-opened a b left right mine theirs byte at)
-        (found-here mine theirs (drop (left + 1) a) (drop (right + 1) b) (mine-kept a b left right mine theirs so_far at) (theirs-kept a b left right mine theirs so_far at) in_mine in_theirs)
-
-pub none-left : (a b : List Range) (left right : ℕ) → Left a b left right → length a ≤ left → IsLeast (both a b) None
-none-left a b left right so_far done = λ byte.
-    so_far.2 byte ∙ both-first (drop left a) (drop right b) byte (ap (λ (xs : List Range). covers xs byte) (drop_all left a done))
-
-pub none-right : (a b : List Range) (left right : ℕ) → Left a b left right → length b ≤ right → IsLeast (both a b) None
-none-right a b left right so_far done = λ byte.
-    so_far.2 byte ∙ both-second (drop left a) (drop right b) byte (ap (λ (ys : List Range). covers ys byte) (drop_all right b done))
+    (λ byte. so_far.2 byte ∙ both-opened a b left right mine theirs byte at)
+    (found-here mine theirs (drop (left + 1) a) (drop (right + 1) b) (mine-kept a b left right mine theirs so_far at) (theirs-kept a b left right mine theirs so_far at) in_mine in_theirs)

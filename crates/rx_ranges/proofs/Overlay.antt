@@ -1,16 +1,13 @@
 -- A claim laid over claims that lie apart.
-use Rattle.std.proofs.Common.{◌≡◌, ℕ, ◌+◌, ◌-◌, ◌<◌, ◌≤◌, min, max, Bool, true, false, cond, leb, Option, Some, None, List, [], ◌∷◌, ◌++◌, length, refl, sym, ◌∙◌, ap, subst, ⊎_elim, inl, inr, ◌⊎◌, append_assoc, arith}
-use Rattle.std.specs.List.{All}
+use Rattle.std.proofs.Common.{◌≡◌, ℕ, ◌+◌, ◌<◌, ◌≤◌, Option, Some, None, List, [], ◌∷◌, ◌++◌, refl, sym, ◌∙◌, ap, ⊎_elim, inl, inr, ◌⊎◌, append_assoc, arith}
 use Rattle.std.proofs.lemmas.List.{append-nil}
-use Rattle.std.proofs.lemmas.List.Elements.{All-nil, All-cons, All-head, All-tail, All-append, All-same}
 use Rattle.std.proofs.lemmas.Bool.{cases_lt, le-leb, lt-leb}
 use Rattle.range_defs.specs.declared.Claim.{Claim}
-use Rattle.range_defs.specs.Places.{EndsInReach}
 use Rattle.range_defs.specs.RangeLaws.{in_range-before, in_range-behind, in_range-inside}
 use Rattle.range_defs.specs.ClaimLaws.{paint_of-out, paint_of-in}
 use Rattle.range_defs.specs.Claims.{paint_of, lesser_paint, painted}
-use Rattle.rx_ranges.specs.Laying.{AreApart, HasFill, part_of, shared_part, laid_on, unless_empty}
-use Rattle.rx_ranges.proofs.Paints.{lesser-none, painted-unless, kept-unless, none-unless, part-in, part-before, part-behind, part-out, apart-before}
+use Rattle.rx_ranges.specs.Laying.{AreApart, part_of, shared_part, laid_on, unless_empty}
+use Rattle.rx_ranges.proofs.Paints.{lesser-none, painted-unless, part-in, part-before, part-behind, part-out, apart-before}
 
 -- the claim has those of its bytes for which no lesser or equal rule is there
 unfoldable pub laid_over : Claim → List Claim → List Claim
@@ -40,18 +37,18 @@ painted-on next claim claims byte a b c d e is_a is_b is_c is_d is_e =
     let last : List Claim = unless_empty (part_of next (claim.range.at + claim.range.len) (next.range.at + next.range.len)) in
     let grouped : (((first ++ second) ++ third) ++ last) ++ claims ≡ first ++ (second ++ (third ++ (last ++ claims))) = simp append_assoc in
     ap (λ (xs : List Claim). painted xs byte) grouped
-        ∙ painted-unless (part_of claim claim.range.at next.range.at) (second ++ (third ++ (last ++ claims))) byte
-        ∙ ap (λ paint. lesser_paint paint (painted (second ++ (third ++ (last ++ claims))) byte)) is_a
-        ∙ ap (λ paint. lesser_paint a paint)
-            (painted-unless (part_of next next.range.at claim.range.at) (third ++ (last ++ claims)) byte
-            ∙ ap (λ paint. lesser_paint paint (painted (third ++ (last ++ claims)) byte)) is_b
-            ∙ ap (λ paint. lesser_paint b paint)
-                (painted-unless (shared_part next claim) (last ++ claims) byte
-                ∙ ap (λ paint. lesser_paint paint (painted (last ++ claims) byte)) is_c
-                ∙ ap (λ paint. lesser_paint c paint)
-                    (painted-unless (part_of next (claim.range.at + claim.range.len) (next.range.at + next.range.len)) claims byte
-                    ∙ ap (λ paint. lesser_paint paint (painted claims byte)) is_d
-                    ∙ ap (λ paint. lesser_paint d paint) is_e)))
+    ∙ painted-unless (part_of claim claim.range.at next.range.at) (second ++ (third ++ (last ++ claims))) byte
+    ∙ ap (λ paint. lesser_paint paint (painted (second ++ (third ++ (last ++ claims))) byte)) is_a
+    ∙ ap (λ paint. lesser_paint a paint)
+    (painted-unless (part_of next next.range.at claim.range.at) (third ++ (last ++ claims)) byte
+    ∙ ap (λ paint. lesser_paint paint (painted (third ++ (last ++ claims)) byte)) is_b
+    ∙ ap (λ paint. lesser_paint b paint)
+    (painted-unless (shared_part next claim) (last ++ claims) byte
+    ∙ ap (λ paint. lesser_paint paint (painted (last ++ claims) byte)) is_c
+    ∙ ap (λ paint. lesser_paint c paint)
+    (painted-unless (part_of next (claim.range.at + claim.range.len) (next.range.at + next.range.len)) claims byte
+    ∙ ap (λ paint. lesser_paint paint (painted claims byte)) is_d
+    ∙ ap (λ paint. lesser_paint d paint) is_e)))
 
 -- the shared part, by what both claims give the byte
 shared-of : (next claim : Claim) (byte : ℕ) (p : Option (ℕ × ℕ))
@@ -61,27 +58,27 @@ shared-of : (next claim : Claim) (byte : ℕ) (p : Option (ℕ × ℕ))
 unfolding shared_part
 shared-of next claim byte p by_next by_claim =
     ⊎_elim
-        (λ lesser. rw (lt-leb next.rule claim.rule lesser) (by_claim lesser))
-        (λ least. rw (le-leb next.rule claim.rule least) (by_next least))
-        (cases_lt claim.rule next.rule)
+    (λ lesser. rw (lt-leb next.rule claim.rule lesser) (by_claim lesser))
+    (λ least. rw (le-leb next.rule claim.rule least) (by_next least))
+    (cases_lt claim.rule next.rule)
 
 -- in front of the next claim
 on-before : (next claim : Claim) (claims : List Claim) (byte : ℕ) → byte < next.range.at → painted claims byte ≡ None
     → painted (laid_on next claim ++ claims) byte ≡ paint_of claim byte
 on-before next claim claims byte before behind =
     let first : paint_of (part_of claim claim.range.at next.range.at) byte ≡ paint_of claim byte =
-        ⊎_elim
-            (λ not_yet. part-before claim claim.range.at next.range.at byte not_yet ∙ sym (paint_before claim byte not_yet))
-            (λ begun. part-in claim claim.range.at next.range.at byte begun before)
-            (cases_lt byte claim.range.at) in
+    ⊎_elim
+    (λ not_yet. part-before claim claim.range.at next.range.at byte not_yet ∙ sym (paint_before claim byte not_yet))
+    (λ begun. part-in claim claim.range.at next.range.at byte begun before)
+    (cases_lt byte claim.range.at) in
     let shared : paint_of (shared_part next claim) byte ≡ None =
-        shared-of next claim byte None
-            (λ _. part-out next claim.range.at (claim.range.at + claim.range.len) byte (paint_before next byte before))
-            (λ _. part-before claim next.range.at (next.range.at + next.range.len) byte before) in
+    shared-of next claim byte None
+    (λ _. part-out next claim.range.at (claim.range.at + claim.range.len) byte (paint_before next byte before))
+    (λ _. part-before claim next.range.at (next.range.at + next.range.len) byte before) in
     painted-on next claim claims byte (paint_of claim byte) None None None None first
-        (part-before next next.range.at claim.range.at byte before) shared
-        (part-out next (claim.range.at + claim.range.len) (next.range.at + next.range.len) byte (paint_before next byte before)) behind
-        ∙ lesser-none (paint_of claim byte)
+    (part-before next next.range.at claim.range.at byte before) shared
+    (part-out next (claim.range.at + claim.range.len) (next.range.at + next.range.len) byte (paint_before next byte before)) behind
+    ∙ lesser-none (paint_of claim byte)
 
 -- behind the next claim
 on-behind : (next claim : Claim) (claims : List Claim) (byte : ℕ) → next.range.at + next.range.len ≤ byte
@@ -89,13 +86,13 @@ on-behind : (next claim : Claim) (claims : List Claim) (byte : ℕ) → next.ran
 on-behind next claim claims byte behind =
     let none : paint_of next byte ≡ None = paint_behind next byte behind in
     let shared : paint_of (shared_part next claim) byte ≡ None =
-        shared-of next claim byte None
-            (λ _. part-out next claim.range.at (claim.range.at + claim.range.len) byte none)
-            (λ _. part-behind claim next.range.at (next.range.at + next.range.len) byte behind) in
+    shared-of next claim byte None
+    (λ _. part-out next claim.range.at (claim.range.at + claim.range.len) byte none)
+    (λ _. part-behind claim next.range.at (next.range.at + next.range.len) byte behind) in
     painted-on next claim claims byte None None None None (painted claims byte)
-        (part-behind claim claim.range.at next.range.at byte (omega arith))
-        (part-out next next.range.at claim.range.at byte none) shared
-        (part-out next (claim.range.at + claim.range.len) (next.range.at + next.range.len) byte none) refl
+    (part-behind claim claim.range.at next.range.at byte (omega arith))
+    (part-out next next.range.at claim.range.at byte none) shared
+    (part-out next (claim.range.at + claim.range.len) (next.range.at + next.range.len) byte none) refl
 
 -- in the next claim, where the claim does not have the byte
 on-next : (next claim : Claim) (claims : List Claim) (byte : ℕ) → next.range.at ≤ byte → byte < next.range.at + next.range.len
@@ -105,22 +102,22 @@ on-next next claim claims byte begun inside out behind =
     let has : paint_of next byte ≡ Some (next.rule, next.fill) = paint_inside next byte begun inside in
     let first : paint_of (part_of claim claim.range.at next.range.at) byte ≡ None = part-behind claim claim.range.at next.range.at byte begun in
     ⊎_elim
-        (λ before. painted-on next claim claims byte None (Some (next.rule, next.fill)) None None None first
-            (part-in next next.range.at claim.range.at byte begun before ∙ has)
-            (shared-of next claim byte None
-                (λ _. part-before next claim.range.at (claim.range.at + claim.range.len) byte before)
-                (λ _. part-out claim next.range.at (next.range.at + next.range.len) byte (paint_before claim byte before)))
-            (part-before next (claim.range.at + claim.range.len) (next.range.at + next.range.len) byte (omega arith)) behind)
-        (λ past. ⊎_elim
-            (λ before. absurd (omega arith))
-            (λ from. painted-on next claim claims byte None None None (Some (next.rule, next.fill)) None first
-                (part-behind next next.range.at claim.range.at byte from)
-                (shared-of next claim byte None
-                    (λ _. part-behind next claim.range.at (claim.range.at + claim.range.len) byte past)
-                    (λ _. part-out claim next.range.at (next.range.at + next.range.len) byte (paint_behind claim byte past)))
-                (part-in next (claim.range.at + claim.range.len) (next.range.at + next.range.len) byte past inside ∙ has) behind)
-            (cases_lt byte claim.range.at))
-        out
+    (λ before. painted-on next claim claims byte None (Some (next.rule, next.fill)) None None None first
+    (part-in next next.range.at claim.range.at byte begun before ∙ has)
+    (shared-of next claim byte None
+    (λ _. part-before next claim.range.at (claim.range.at + claim.range.len) byte before)
+    (λ _. part-out claim next.range.at (next.range.at + next.range.len) byte (paint_before claim byte before)))
+    (part-before next (claim.range.at + claim.range.len) (next.range.at + next.range.len) byte (omega arith)) behind)
+    (λ past. ⊎_elim
+    (λ before. absurd (omega arith))
+    (λ from. painted-on next claim claims byte None None None (Some (next.rule, next.fill)) None first
+    (part-behind next next.range.at claim.range.at byte from)
+    (shared-of next claim byte None
+    (λ _. part-behind next claim.range.at (claim.range.at + claim.range.len) byte past)
+    (λ _. part-out claim next.range.at (next.range.at + next.range.len) byte (paint_behind claim byte past)))
+    (part-in next (claim.range.at + claim.range.len) (next.range.at + next.range.len) byte past inside ∙ has) behind)
+    (cases_lt byte claim.range.at))
+    out
 
 -- in both claims
 on-both : (next claim : Claim) (claims : List Claim) (byte : ℕ) → next.range.at ≤ byte → byte < next.range.at + next.range.len
@@ -129,13 +126,13 @@ on-both : (next claim : Claim) (claims : List Claim) (byte : ℕ) → next.range
 on-both next claim claims byte begun inside from to behind =
     let both : Option (ℕ × ℕ) = lesser_paint (Some (next.rule, next.fill)) (Some (claim.rule, claim.fill)) in
     let shared : paint_of (shared_part next claim) byte ≡ both =
-        shared-of next claim byte both
-            (λ least. part-in next claim.range.at (claim.range.at + claim.range.len) byte from to ∙ paint_inside next byte begun inside ∙ sym (rw (le-leb next.rule claim.rule least) refl))
-            (λ lesser. part-in claim next.range.at (next.range.at + next.range.len) byte begun inside ∙ paint_inside claim byte from to ∙ sym (rw (lt-leb next.rule claim.rule lesser) refl)) in
+    shared-of next claim byte both
+    (λ least. part-in next claim.range.at (claim.range.at + claim.range.len) byte from to ∙ paint_inside next byte begun inside ∙ sym (rw (le-leb next.rule claim.rule least) refl))
+    (λ lesser. part-in claim next.range.at (next.range.at + next.range.len) byte begun inside ∙ paint_inside claim byte from to ∙ sym (rw (lt-leb next.rule claim.rule lesser) refl)) in
     painted-on next claim claims byte None None both None None
-        (part-behind claim claim.range.at next.range.at byte begun) (part-behind next next.range.at claim.range.at byte from) shared
-        (part-before next (claim.range.at + claim.range.len) (next.range.at + next.range.len) byte to) behind
-        ∙ lesser-none both
+    (part-behind claim claim.range.at next.range.at byte begun) (part-behind next next.range.at claim.range.at byte from) shared
+    (part-before next (claim.range.at + claim.range.len) (next.range.at + next.range.len) byte to) behind
+    ∙ lesser-none both
 
 pub over-none : (claim : Claim) → laid_over claim [] ≡ unless_empty claim
 unfolding laid_over
@@ -150,50 +147,50 @@ over-more claim next laid = refl
 rest-behind : (claim : Claim) (from byte : ℕ) → from ≤ byte → paint_of (part_of claim from (claim.range.at + claim.range.len)) byte ≡ paint_of claim byte
 rest-behind claim from byte behind =
     ⊎_elim
-        (λ inside. part-in claim from (claim.range.at + claim.range.len) byte behind inside)
-        (λ past. part-behind claim from (claim.range.at + claim.range.len) byte past ∙ sym (paint_behind claim byte past))
-        (cases_lt byte (claim.range.at + claim.range.len))
+    (λ inside. part-in claim from (claim.range.at + claim.range.len) byte behind inside)
+    (λ past. part-behind claim from (claim.range.at + claim.range.len) byte past ∙ sym (paint_behind claim byte past))
+    (cases_lt byte (claim.range.at + claim.range.len))
 
 over-inside : (claim next : Claim) (laid claims : List Claim) (byte : ℕ) → next.range.at ≤ byte → byte < next.range.at + next.range.len
     → painted laid byte ≡ None → painted claims byte ≡ None
     → painted (laid_on next claim ++ claims) byte ≡ lesser_paint (painted (next ∷ laid) byte) (paint_of claim byte)
 over-inside claim next laid claims byte begun inside front none =
     let had : painted (next ∷ laid) byte ≡ Some (next.rule, next.fill) =
-        ap (λ paint. lesser_paint paint (painted laid byte)) (paint_inside next byte begun inside) ∙ ap (λ paint. lesser_paint (Some (next.rule, next.fill)) paint) front in
+    ap (λ paint. lesser_paint paint (painted laid byte)) (paint_inside next byte begun inside) ∙ ap (λ paint. lesser_paint (Some (next.rule, next.fill)) paint) front in
     ⊎_elim
-        (λ before. on-next next claim claims byte begun inside (inl before) none
-            ∙ sym (ap (λ paint. lesser_paint paint (paint_of claim byte)) had ∙ ap (λ paint. lesser_paint (Some (next.rule, next.fill)) paint) (paint_before claim byte before)))
-        (λ from. ⊎_elim
-            (λ to. on-both next claim claims byte begun inside from to none
-                ∙ sym (ap (λ paint. lesser_paint paint (paint_of claim byte)) had ∙ ap (λ paint. lesser_paint (Some (next.rule, next.fill)) paint) (paint_inside claim byte from to)))
-            (λ past. on-next next claim claims byte begun inside (inr past) none
-                ∙ sym (ap (λ paint. lesser_paint paint (paint_of claim byte)) had ∙ ap (λ paint. lesser_paint (Some (next.rule, next.fill)) paint) (paint_behind claim byte past)))
-            (cases_lt byte (claim.range.at + claim.range.len)))
-        (cases_lt byte claim.range.at)
+    (λ before. on-next next claim claims byte begun inside (inl before) none
+    ∙ sym (ap (λ paint. lesser_paint paint (paint_of claim byte)) had ∙ ap (λ paint. lesser_paint (Some (next.rule, next.fill)) paint) (paint_before claim byte before)))
+    (λ from. ⊎_elim
+    (λ to. on-both next claim claims byte begun inside from to none
+    ∙ sym (ap (λ paint. lesser_paint paint (paint_of claim byte)) had ∙ ap (λ paint. lesser_paint (Some (next.rule, next.fill)) paint) (paint_inside claim byte from to)))
+    (λ past. on-next next claim claims byte begun inside (inr past) none
+    ∙ sym (ap (λ paint. lesser_paint paint (paint_of claim byte)) had ∙ ap (λ paint. lesser_paint (Some (next.rule, next.fill)) paint) (paint_behind claim byte past)))
+    (cases_lt byte (claim.range.at + claim.range.len)))
+    (cases_lt byte claim.range.at)
 
 -- each byte has the lesser of what it had and what the claim gives it
 pub painted-over : (claim : Claim) (laid : List Claim) (from byte : ℕ) → AreApart from laid
     → painted (laid_over claim laid) byte ≡ lesser_paint (painted laid byte) (paint_of claim byte)
 painted-over claim [] from byte apart =
     ap (λ (xs : List Claim). painted xs byte) (over-none claim ∙ sym (append-nil (unless_empty claim)))
-        ∙ painted-unless claim [] byte ∙ lesser-none (paint_of claim byte)
+    ∙ painted-unless claim [] byte ∙ lesser-none (paint_of claim byte)
 painted-over claim (next ∷ laid) from byte apart =
     let end : ℕ = next.range.at + next.range.len in
     let rest : Claim = part_of claim end (claim.range.at + claim.range.len) in
     let later : painted (laid_over rest laid) byte ≡ lesser_paint (painted laid byte) (paint_of rest byte) = painted-over rest laid end byte apart.2 in
     let front : byte < end → painted laid byte ≡ None = λ before. apart-before laid end byte apart.2 before in
     let none : byte < end → painted (laid_over rest laid) byte ≡ None =
-        λ before. later ∙ ap (λ paint. lesser_paint paint (paint_of rest byte)) (front before) ∙ part-before claim end (claim.range.at + claim.range.len) byte before in
+    λ before. later ∙ ap (λ paint. lesser_paint paint (paint_of rest byte)) (front before) ∙ part-before claim end (claim.range.at + claim.range.len) byte before in
     ap (λ (xs : List Claim). painted xs byte) (over-more claim next laid)
-        ∙ ⊎_elim
-            (λ before. let low : byte < end = omega arith in
-                on-before next claim (laid_over rest laid) byte before (none low)
-                ∙ sym (ap (λ paint. lesser_paint (lesser_paint paint (painted laid byte)) (paint_of claim byte)) (paint_before next byte before)
-                    ∙ ap (λ paint. lesser_paint paint (paint_of claim byte)) (front low)))
-            (λ begun. ⊎_elim
-                (λ inside. over-inside claim next laid (laid_over rest laid) byte begun inside (front inside) (none inside))
-                (λ behind. on-behind next claim (laid_over rest laid) byte behind ∙ later
-                    ∙ ap (λ paint. lesser_paint (painted laid byte) paint) (rest-behind claim end byte behind)
-                    ∙ sym (ap (λ paint. lesser_paint (lesser_paint paint (painted laid byte)) (paint_of claim byte)) (paint_behind next byte behind)))
-                (cases_lt byte end))
-            (cases_lt byte next.range.at)
+    ∙ ⊎_elim
+    (λ before. let low : byte < end = omega arith in
+    on-before next claim (laid_over rest laid) byte before (none low)
+    ∙ sym (ap (λ paint. lesser_paint (lesser_paint paint (painted laid byte)) (paint_of claim byte)) (paint_before next byte before)
+    ∙ ap (λ paint. lesser_paint paint (paint_of claim byte)) (front low)))
+    (λ begun. ⊎_elim
+    (λ inside. over-inside claim next laid (laid_over rest laid) byte begun inside (front inside) (none inside))
+    (λ behind. on-behind next claim (laid_over rest laid) byte behind ∙ later
+    ∙ ap (λ paint. lesser_paint (painted laid byte) paint) (rest-behind claim end byte behind)
+    ∙ sym (ap (λ paint. lesser_paint (lesser_paint paint (painted laid byte)) (paint_of claim byte)) (paint_behind next byte behind)))
+    (cases_lt byte end))
+    (cases_lt byte next.range.at)

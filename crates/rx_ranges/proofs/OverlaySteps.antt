@@ -1,5 +1,5 @@
 -- The loop that lays a claim over others.
-use Rattle.std.proofs.Common.{◌≡◌, ℕ, ◌+◌, ◌<◌, ◌≤◌, List, [], ◌∷◌, ◌++◌, length, drop, get_or, refl, sym, ◌∙◌, ap, subst, append_assoc, arith}
+use Rattle.std.proofs.Common.{◌≡◌, ℕ, ◌+◌, ◌<◌, ◌≤◌, List, ◌++◌, length, drop, get_or, sym, ◌∙◌, ap, subst, append_assoc}
 use Rattle.std.specs.List.{All}
 use Rattle.std.proofs.lemmas.List.{drop_more, drop_all}
 use Rattle.std.proofs.lemmas.List.Elements.{All-get_or}
@@ -20,14 +20,15 @@ so_far-more whole laid out out' rest rest' d i so_far reach within wrote cut =
     let next : Claim = get_or laid i d in
     let end : ℕ = next.range.at + next.range.len in
     let to : ℕ = rest.range.at + rest.range.len in
-    let next_reach : EndsInReach next.range = All-get_or (λ (claim : Claim). EndsInReach claim.range) laid i d within reach in
-    (ap (λ (xs : List Claim). xs ++ laid_over rest' (drop (i + 1) laid)) wrote
-        ∙ append_assoc out (laid_on next rest) (laid_over rest' (drop (i + 1) laid))
-        ∙ ap (λ (part : Claim). out ++ (laid_on next rest ++ laid_over part (drop (i + 1) laid))) cut
-        ∙ ap (λ (xs : List Claim). out ++ xs) (sym (over-more rest next (drop (i + 1) laid)))
-        ∙ ap (λ (xs : List Claim). out ++ laid_over rest xs) (sym (drop_more laid i d within))
-        ∙ so_far.0,
-    subst (λ (part : Claim). EndsInReach part.range) (sym cut) (part-reach rest end to next_reach so_far.1))
+    let next_reach : EndsInReach next.range = All-get_or (λ (claim : Claim). EndsInReach claim.range) laid i d within reach in (
+      ap (λ (xs : List Claim). xs ++ laid_over rest' (drop (i + 1) laid)) wrote
+          ∙ append_assoc out (laid_on next rest) (laid_over rest' (drop (i + 1) laid))
+          ∙ ap (λ (part : Claim). out ++ (laid_on next rest ++ laid_over part (drop (i + 1) laid))) cut
+          ∙ ap (λ (xs : List Claim). out ++ xs) (sym (over-more rest next (drop (i + 1) laid)))
+          ∙ ap (λ (xs : List Claim). out ++ laid_over rest xs) (sym (drop_more laid i d within))
+          ∙ so_far.0,
+      subst (λ (part : Claim). EndsInReach part.range) (sym cut) (part-reach rest end to next_reach so_far.1),
+    )
 
 pub so_far-done : (whole laid out out' : List Claim) (rest : Claim) (i : ℕ) → SoFar whole laid out rest i → length laid ≤ i
     → out' ≡ out ++ unless_empty rest → out' ≡ whole

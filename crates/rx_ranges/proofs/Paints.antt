@@ -1,13 +1,12 @@
 -- What claims give a byte, one after the other.
-use Rattle.std.proofs.Common.{◌≡◌, ℕ, ◌+◌, ◌-◌, ◌<◌, ◌≤◌, min, max, Bool, true, false, cond, ltb, leb, Option, Some, None, List, [], ◌∷◌, ◌++◌, length, take, get_or, refl, sym, ◌∙◌, ap, subst, ⊎_elim, arith}
+use Rattle.std.proofs.Common.{◌≡◌, ℕ, ◌+◌, ◌<◌, ◌≤◌, Bool, false, cond, Option, Some, None, List, [], ◌∷◌, ◌++◌, length, take, get_or, refl, sym, ◌∙◌, ap, ⊎_elim, arith}
 use Rattle.std.proofs.lemmas.List.{take_more}
 use Rattle.std.proofs.lemmas.Bool.{cases_lt, lt-ltb, le-ltb}
 use Rattle.std.proofs.lemmas.Bool.Decides.{nat_tests}
-use Rattle.range_defs.specs.declared.Range.{Range}
 use Rattle.range_defs.specs.declared.Claim.{Claim}
 use Rattle.range_defs.specs.Places.{in_range}
 use Rattle.range_defs.specs.Claims.{paint_of, lesser_paint, painted}
-use Rattle.range_defs.specs.RangeLaws.{in_range-before, in_range-behind}
+use Rattle.range_defs.specs.RangeLaws.{in_range-before}
 use Rattle.range_defs.specs.ClaimLaws.{paint_of-out}
 use Rattle.rx_ranges.specs.Laying.{AreApart, part_of, unless_empty}
 
@@ -28,15 +27,15 @@ pub painted-append : (a b : List Claim) (byte : ℕ) → painted (a ++ b) byte �
 painted-append [] b byte = refl
 painted-append (claim ∷ a) b byte =
     ap (λ paint. lesser_paint (paint_of claim byte) paint) (painted-append a b byte)
-        ∙ sym (lesser_assoc (paint_of claim byte) (painted a byte) (painted b byte))
+    ∙ sym (lesser_assoc (paint_of claim byte) (painted a byte) (painted b byte))
 
 -- one claim more
 pub painted-take : (claims : List Claim) (i : ℕ) (d : Claim) (byte : ℕ) → i < length claims
     → painted (take (i + 1) claims) byte ≡ lesser_paint (painted (take i claims) byte) (paint_of (get_or claims i d) byte)
 painted-take claims i d byte within =
     ap (λ (xs : List Claim). painted xs byte) (take_more claims i d within)
-        ∙ painted-append (take i claims) (get_or claims i d ∷ []) byte
-        ∙ ap (λ paint. lesser_paint (painted (take i claims) byte) paint) (lesser-none (paint_of (get_or claims i d) byte))
+    ∙ painted-append (take i claims) (get_or claims i d ∷ []) byte
+    ∙ ap (λ paint. lesser_paint (painted (take i claims) byte) paint) (lesser-none (paint_of (get_or claims i d) byte))
 
 paint_of-empty : (claim : Claim) (byte : ℕ) → claim.range.len ≡ 0 → paint_of claim byte ≡ None
 paint_of-empty claim byte empty =
@@ -54,11 +53,11 @@ none-unless claim empty = let least : claim.range.len ≤ 0 = omega arith in rw 
 pub painted-unless : (claim : Claim) (claims : List Claim) (byte : ℕ) → painted (unless_empty claim ++ claims) byte ≡ lesser_paint (paint_of claim byte) (painted claims byte)
 painted-unless claim claims byte =
     ⊎_elim
-        (λ some. ap (λ (xs : List Claim). painted (xs ++ claims) byte) (kept-unless claim some))
-        (λ empty. let none : claim.range.len ≡ 0 = omega arith in
-            ap (λ (xs : List Claim). painted (xs ++ claims) byte) (none-unless claim none)
-            ∙ ap (λ paint. lesser_paint paint (painted claims byte)) (sym (paint_of-empty claim byte none)))
-        (cases_lt 0 claim.range.len)
+    (λ some. ap (λ (xs : List Claim). painted (xs ++ claims) byte) (kept-unless claim some))
+    (λ empty. let none : claim.range.len ≡ 0 = omega arith in
+    ap (λ (xs : List Claim). painted (xs ++ claims) byte) (none-unless claim none)
+    ∙ ap (λ paint. lesser_paint paint (painted claims byte)) (sym (paint_of-empty claim byte none)))
+    (cases_lt 0 claim.range.len)
 
 -- what a part of a claim gives a byte
 pub part-in : (claim : Claim) (from to byte : ℕ) → from ≤ byte → byte < to → paint_of (part_of claim from to) byte ≡ paint_of claim byte
@@ -81,12 +80,12 @@ part-behind claim from to byte behind =
 pub part-out : (claim : Claim) (from to byte : ℕ) → paint_of claim byte ≡ None → paint_of (part_of claim from to) byte ≡ None
 part-out claim from to byte out =
     ⊎_elim
-        (λ before. part-before claim from to byte before)
-        (λ begun. ⊎_elim
-            (λ inside. part-in claim from to byte begun inside ∙ out)
-            (λ behind. part-behind claim from to byte behind)
-            (cases_lt byte to))
-        (cases_lt byte from)
+    (λ before. part-before claim from to byte before)
+    (λ begun. ⊎_elim
+    (λ inside. part-in claim from to byte begun inside ∙ out)
+    (λ behind. part-behind claim from to byte behind)
+    (cases_lt byte to))
+    (cases_lt byte from)
 
 -- no byte in front of claims that lie apart is claimed
 pub apart-before : (claims : List Claim) (from byte : ℕ) → AreApart from claims → byte < from → painted claims byte ≡ None

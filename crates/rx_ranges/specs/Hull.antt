@@ -1,5 +1,5 @@
 -- The range round two ranges.
-use Rattle.std.specs.Prelude.{ℕ, ◌+◌, ◌-◌, min, max}
+use Rattle.std.specs.Prelude.{◌+◌, ◌-◌, min, max}
 use Rattle.range_defs.specs.declared.Range.{Range}
 
 -- the range from where the first of two begins to where the last ends

@@ -7,6 +7,8 @@ pub(crate) mod laying;
 pub mod pieces;
 pub mod plan;
 pub mod ranges;
+#[cfg(test)]
+mod tests;
 pub mod text;
 
 pub use fills::FillMap;

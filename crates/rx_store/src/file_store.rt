@@ -146,6 +146,7 @@ impl Store for FileStore {
         ensures same { state_of_files self.new ≡ state_of_files self.old }
         ensures counts { self.old.faults ≤ self.new.faults }
         ensures cause { OnErr result (Rose self.old.faults self.new.faults) }
+        ensures calm { OnOk result (self.new.faults ≡ self.old.faults) }
 
         // It fails exactly where the file couldn't be opened or measured.
         ensures failed { IsTrue (file_of area self.old).has_failed → IsErr result }
@@ -165,6 +166,7 @@ impl Store for FileStore {
         ensures same { state_of_files self.new ≡ state_of_files self.old }
         ensures counts { self.old.faults ≤ self.new.faults }
         ensures cause { OnErr result (Rose self.old.faults self.new.faults) }
+        ensures calm { OnOk result (self.new.faults ≡ self.old.faults) }
 
         // It fails where the file couldn't be opened or measured, and of no file nothing can be read.
         ensures failed { IsTrue (file_of area self.old).has_failed → IsErr result }

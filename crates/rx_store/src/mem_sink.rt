@@ -1,5 +1,5 @@
 //! A sink in memory, with room for so many bytes.
-ghost use Rattle.std.specs.Prelude.{◌≡◌, ◌+◌, ◌-◌, ◌<◌, ◌≤◌, ◌++◌, length, take, min, vec_len, vec_capacity, Some, IfOk, OnErr, IsErr};
+ghost use Rattle.std.specs.Prelude.{OnOk, ◌≡◌, ◌+◌, ◌-◌, ◌<◌, ◌≤◌, ◌++◌, length, take, min, vec_len, vec_capacity, Some, IfOk, OnErr, IsErr};
 ghost use Rattle.disk_defs.specs.Stream.{taken_with};
 ghost use Rattle.disk_defs.specs.Count.{Rose, faults_after};
 ghost use Rattle.disk_defs.specs.Memory.{sink_with_room};
@@ -74,6 +74,7 @@ impl Sink for MemSink {
         ensures fault { OnErr result (self.new.bytes ≡ self.old.bytes) }
         ensures counts { self.old.faults ≤ self.new.faults }
         ensures cause { OnErr result (Rose self.old.faults self.new.faults) }
+        ensures calm { OnOk result (self.new.faults ≡ self.old.faults) }
 
         // It takes what fits, and fails exactly where a piece that isn't empty finds no room at all.
         ensures most { IfOk result

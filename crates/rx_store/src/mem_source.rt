@@ -1,5 +1,5 @@
 //! A source in memory, of whose reads one may fail.
-ghost use Rattle.std.specs.Prelude.{◌≡◌, ◌<◌, ◌≤◌, [], Some, length, take, min, IfOk, OnErr, IfSome, IsErr};
+ghost use Rattle.std.specs.Prelude.{OnOk, ◌≡◌, ◌<◌, ◌≤◌, [], Some, length, take, min, IfOk, OnErr, IsErr};
 ghost use Rattle.disk_defs.specs.Stream.{GivesFirst, rest_after};
 ghost use Rattle.disk_defs.specs.Count.{Rose, one_more, faults_after};
 ghost use Rattle.disk_defs.specs.Memory.{source_of};
@@ -101,6 +101,7 @@ impl Source for MemSource {
         ensures fault { OnErr result (self.new.rest ≡ self.old.rest) }
         ensures counts { self.old.faults ≤ self.new.faults }
         ensures cause { OnErr result (Rose self.old.faults self.new.faults) }
+        ensures calm { OnOk result (self.new.faults ≡ self.old.faults) }
 
         // It gives as much as there is and fits, and fails exactly where its number was named.
         ensures most { IfOk result (λ count. count ≡ min (length buf.new) (length self.old.rest)) }

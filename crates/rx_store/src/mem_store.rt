@@ -1,5 +1,5 @@
 //! A store in memory, whose calls fail where they are told to.
-ghost use Rattle.std.specs.Prelude.{◌≡◌, ◌+◌, ◌≤◌, ℕ, length, vec_len, IfOk, OnOk, OnErr, IsErr, Contains};
+ghost use Rattle.std.specs.Prelude.{◌≡◌, ◌+◌, ◌≤◌, length, vec_len, IfOk, OnOk, OnErr, IsErr, Contains};
 ghost use Rattle.disk_defs.specs.Disk.{size_of, ReadsFrom};
 ghost use Rattle.disk_defs.specs.Count.{Rose, one_more, faults_after};
 ghost use Rattle.disk_defs.specs.Memory.{store_holding, state_in_memory, after_call};
@@ -130,6 +130,7 @@ impl Store for MemStore {
         ensures same { state_in_memory self.new ≡ state_in_memory self.old }
         ensures counts { self.old.faults ≤ self.new.faults }
         ensures cause { OnErr result (Rose self.old.faults self.new.faults) }
+        ensures calm { OnOk result (self.new.faults ≡ self.old.faults) }
 
         // A call fails exactly where its number was named.
         ensures fails { Contains self.old.failing (one_more self.old.calls) → IsErr result }
@@ -150,6 +151,7 @@ impl Store for MemStore {
         ensures same { state_in_memory self.new ≡ state_in_memory self.old }
         ensures counts { self.old.faults ≤ self.new.faults }
         ensures cause { OnErr result (Rose self.old.faults self.new.faults) }
+        ensures calm { OnOk result (self.new.faults ≡ self.old.faults) }
 
         // A call fails exactly where its number was named.
         ensures fails { Contains self.old.failing (one_more self.old.calls) → IsErr result }

@@ -20,7 +20,8 @@ pub trait Sink {
         ensures taken { IfOk result (λ count. taken self.new ≡ taken_with (taken self.old) (take count bytes.now)) }
         ensures fault { OnErr result (taken self.new ≡ taken self.old) }
         ensures counts { faults self.old ≤ faults self.new }
-        ensures cause { OnErr result (Rose (faults self.old) (faults self.new)) };
+        ensures cause { OnErr result (Rose (faults self.old) (faults self.new)) }
+        ensures calm { OnOk result (faults self.new ≡ faults self.old) };
 }
 
 /// Writes a whole text, in as many writes as the sink wants. After a fault the sink took some first bytes of it.
@@ -29,6 +30,7 @@ pub fn write_all<K: Sink>(sink: &mut K, bytes: &[u8]) -> Result<(), Fault>
     ensures prefix { OnErr result (TookPrefixOf (K.taken sink.old) (K.taken sink.new) bytes.now) }
     ensures counts { K.faults sink.old ≤ K.faults sink.new }
     ensures cause { OnErr result (Rose (K.faults sink.old) (K.faults sink.new)) }
+    ensures calm { OnOk result (K.faults sink.new ≡ K.faults sink.old) }
 {
     let mut done = 0;
     while done < bytes.len() {

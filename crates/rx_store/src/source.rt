@@ -1,5 +1,5 @@
 //! The source of a text.
-ghost use Rattle.std.specs.Prelude.{◌≡◌, ◌<◌, ◌≤◌, ℕ, [], List, Option, length, IfOk, IfSome, OnErr};
+ghost use Rattle.std.specs.Prelude.{◌≡◌, ◌<◌, ◌≤◌, ℕ, [], List, Option, length, IfOk, IfSome, OnOk, OnErr};
 ghost use Rattle.disk_defs.specs.Stream.{GivesFirst, rest_after};
 ghost use Rattle.disk_defs.specs.Count.{Rose};
 
@@ -22,5 +22,6 @@ pub trait Source {
         ensures end { result ≡ Ok 0 → 0 < length buf.new → IfSome (rest self.old) (λ rest. rest ≡ []) }
         ensures fault { OnErr result (rest self.new ≡ rest self.old) }
         ensures counts { faults self.old ≤ faults self.new }
-        ensures cause { OnErr result (Rose (faults self.old) (faults self.new)) };
+        ensures cause { OnErr result (Rose (faults self.old) (faults self.new)) }
+        ensures calm { OnOk result (faults self.new ≡ faults self.old) };
 }

@@ -1,6 +1,5 @@
 //! A source over a reader of std.
-ghost use Rattle.std.specs.Prelude.{◌≡◌, ◌<◌, ◌≤◌, None, [], length, IfOk, IfSome, OnErr, IsErr, IsTrue, is_none};
-ghost use Rattle.disk_defs.specs.Stream.{GivesFirst, rest_after};
+ghost use Rattle.std.specs.Prelude.{OnOk, ◌≡◌, ◌≤◌, length, IfOk, OnErr, IsErr, IsTrue, is_none};
 ghost use Rattle.disk_defs.specs.Count.{Rose};
 
 use crate::outside::{counted, read_once};
@@ -46,6 +45,7 @@ impl<R: Read> Source for StdSource<R> {
         ensures within { IfOk result (λ count. count ≤ length buf.new) }
         ensures counts { self.old.faults ≤ self.new.faults }
         ensures cause { OnErr result (Rose self.old.faults self.new.faults) }
+        ensures calm { OnOk result (self.new.faults ≡ self.old.faults) }
         ensures missing { IsTrue self.old.is_missing → IsErr result }
         ensures reader { self.new.is_missing ≡ self.old.is_missing }
     {

@@ -18,7 +18,8 @@ pub trait Store {
         ensures size { IfOk result (λ size. size ≡ size_of area (state self.old)) }
         ensures same { state self.new ≡ state self.old }
         ensures counts { faults self.old ≤ faults self.new }
-        ensures cause { OnErr result (Rose (faults self.old) (faults self.new)) };
+        ensures cause { OnErr result (Rose (faults self.old) (faults self.new)) }
+        ensures calm { OnOk result (faults self.new ≡ faults self.old) };
 
     /// Reads the bytes of an area from `at` on into the whole buffer. After a fault the buffer has any bytes.
     fn read_at(&mut self, area: Area, at: u64, buf: &mut [u8]) -> Result<(), Fault>
@@ -26,7 +27,8 @@ pub trait Store {
         ensures bytes { OnOk result (ReadsFrom area at (state self.old) buf.new) }
         ensures same { state self.new ≡ state self.old }
         ensures counts { faults self.old ≤ faults self.new }
-        ensures cause { OnErr result (Rose (faults self.old) (faults self.new)) };
+        ensures cause { OnErr result (Rose (faults self.old) (faults self.new)) }
+        ensures calm { OnOk result (faults self.new ≡ faults self.old) };
 
     /// What it tells has the sizes of the areas.
     ghost tells_its_sizes: { (store : Self) → TellsItsSizes (state store) };

@@ -1,5 +1,5 @@
 //! Tests of what no clause says: that memory is enough, and what real files give.
-ghost use Rattle.std.specs.Prelude.{◌≡◌, ◌≤◌, length, IfOk};
+ghost use Rattle.std.specs.Prelude.{◌≡◌, ◌≤◌, IfOk};
 ghost use Rattle.disk_defs.specs.Disk.{size_of};
 
 use super::{

@@ -1,5 +1,5 @@
 //! A text that is read whole.
-ghost use Rattle.std.specs.Prelude.{◌≡◌, ◌<◌, ◌≤◌, [], length, IfOk, IfSome, IfNone, IsErrOf};
+ghost use Rattle.std.specs.Prelude.{◌≡◌, ◌≢◌, Err, ◌<◌, ◌≤◌, [], length, IfOk, IfSome, IfNone, IsErrOf};
 ghost use Rattle.disk_defs.specs.Stream.{IsPartlyRead};
 ghost use Rattle.disk_defs.specs.Count.{Rose};
 ghost use Rattle.rx_store.specs.declared.whole.ReadError.TheVariants.{Fault, NoMemory};
@@ -54,6 +54,7 @@ pub fn read_to_end<R: Source>(
 
     ensures cause { IsErrOf result ReadError.Fault → Rose (R.faults source.old) (R.faults source.new) }
     ensures counts { R.faults source.old ≤ R.faults source.new }
+    ensures calm { result ≢ Err ReadError.Fault → R.faults source.new ≡ R.faults source.old }
 {
     let mut text = Vec::new(alloc);
     let mut block = [0; BLOCK];

@@ -1,12 +1,13 @@
 -- What holds of the pieces and the slack of a file of at most one block.
-use Rattle.std.specs.Prelude.{◌≡◌, ℕ, ◌+◌, ◌-◌, ◌*◌, ◌/◌, ◌%◌, ◌<◌, ◌≤◌, min, Bool, true, false, ◌==◌, if◌then◌else◌, [], ◌∷◌, refl}
+use Rattle.std.specs.Prelude.{◌≡◌, ℕ, ◌+◌, ◌-◌, ◌*◌, ◌/◌, ◌%◌, ◌<◌, ◌≤◌, min, Bool, true, false, ◌==◌, if◌then◌else◌, List, [], ◌∷◌, refl}
 use Rattle.std.proofs.Common.{arith, ⊎_elim}
 use Rattle.std.proofs.Math.Nat.{mul-le-mul_right}
 use Rattle.std.proofs.lemmas.Bool.{cases_lt}
 use Rattle.std.proofs.lemmas.Bool.Decides.{nat_tests}
 use Rattle.std.proofs.lemmas.Grind.{div_ceil_times}
 use Rattle.std.proofs.lemmas.List.Elements.{All-cons, All-nil}
-use Rattle.range_defs.specs.Places.{IsRangeList}
+use Rattle.range_defs.specs.Places.{IsRangeList, covers}
+use Rattle.range_defs.specs.RangeLaws.{same_range_list}
 use Rattle.rx_ranges.specs.declared.pieces.PieceKind.TheVariants.{Disk}
 use Rattle.rx_tree.specs.Covering.{ArePiecesOf}
 use Rattle.rx_tree.specs.Within.{ArePiecesWithin, AreRangesWithin}
@@ -55,3 +56,23 @@ rounded_up_one fragment size some fits =
         (λ one. let once : count * unit ≤ 1 * unit = mul-le-mul_right unit (omega (arith, one)) in omega (arith, once))
         (λ more. let twice : 2 * unit ≤ count * unit = mul-le-mul_right unit (omega (arith, more)) in omega (arith, twice))
         (cases_lt count 2)
+
+-- an empty file takes up no fragment, and has no slack
+rounded_up_empty : (fragment : ℕ) → 0 < fragment → rounded_up fragment 0 ≡ 0
+rounded_up_empty fragment some =
+    none (0 / fragment + min 1 (0 % fragment)) fragment (omega (arith, (div_ceil_times 0 fragment some).1))
+  where
+    none : (count unit : ℕ) → count * unit < unit → count * unit ≡ 0
+    none count unit less =
+        ⊎_elim
+        (λ zero. let once : count * unit ≤ 0 * unit = mul-le-mul_right unit (omega (arith, zero)) in omega (arith, once))
+        (λ more. let once : 1 * unit ≤ count * unit = mul-le-mul_right unit (omega (arith, more)) in absurd (omega (arith, once)))
+        (cases_lt count 1)
+
+pub one_block_slack_empty : (fragment at : ℕ) → 0 < fragment → one_block_slack fragment 0 at ≡ []
+one_block_slack_empty fragment at some = rw (rounded_up_empty fragment some) refl
+
+-- a canonical list with the bytes of the slack is the slack
+pub list_is_slack : (fragment size at : ℕ) (list : List Range) → 0 < fragment → IsRangeList list
+    → ((byte : ℕ) → covers list byte ≡ covers (one_block_slack fragment size at) byte) → list ≡ one_block_slack fragment size at
+list_is_slack fragment size at list some kept same = same_range_list list (one_block_slack fragment size at) kept (one_block_slack_kept fragment size at some) same

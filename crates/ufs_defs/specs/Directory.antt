@@ -46,7 +46,7 @@ abbrev pub named_inode : List ℕ → ℕ → ℕ
 named_inode content at = little_at 4 content at
 
 -- whether the record at a place is an entry
-abbrev pub is_entry : List ℕ → ℕ → Bool
+unfoldable pub is_entry : List ℕ → ℕ → Bool
 is_entry content at =
     nat_le 8 (left_at at)
     && (is_record_length (left_at at) (record_length content at)

@@ -1,14 +1,24 @@
 -- How the entries of a directory follow one on another.
-use Rattle.std.specs.Prelude.{◌≡◌, ℕ, zero, suc, ◌+◌, ◌-◌, ◌<◌, ◌≤◌, Bool, true, false, nat_le, if◌then◌else◌, Result, Ok, Err, List, [], ◌∷◌, ◌++◌, length, refl}
+use Rattle.std.specs.Prelude.{◌≡◌, ℕ, zero, suc, ◌+◌, ◌-◌, ◌<◌, ◌≤◌, ◌%◌, Bool, true, false, nat_le, if◌then◌else◌, Result, Ok, Err, List, [], ◌∷◌, ◌++◌, length, refl}
 use Rattle.std.proofs.Common.{ap, sym, ◌∙◌, arith, append_assoc, append-nil}
 use Rattle.std.proofs.lemmas.Bool.{le-leb, lt-leb}
 use Rattle.std.proofs.lemmas.Bool.Decides.{nat_tests}
 use Rattle.image_defs.specs.Runs.{with_value}
-use Rattle.ufs_defs.specs.Directory.{Entry, is_entry, entry_of, record_length, with_entry, entries_within, entries_from, entries_of}
+use Rattle.ufs_defs.specs.Directory.{Entry, is_entry, entry_of, left_at, record_length, with_entry, entries_within, entries_from, entries_of}
 
 -- a record has at least the fields in front of the name
 pub entry-len : (content : List ℕ) (at : ℕ) → is_entry content at ≡ true → 8 ≤ record_length content at
+unfolding is_entry
 entry-len content at entry = grind (arith, nat_tests)
+
+-- and it ends in its 512 bytes
+pub entry-left : (content : List ℕ) (at : ℕ) → is_entry content at ≡ true → record_length content at ≤ left_at at
+unfolding is_entry
+entry-left content at entry = grind (arith, nat_tests)
+
+-- so it ends in a content of whole pieces of 512 bytes
+pub entry-inside : (content : List ℕ) (at : ℕ) → length content % 512 ≡ 0 → at < length content → is_entry content at ≡ true → at + record_length content at ≤ length content
+entry-inside content at whole inside entry = omega (arith, entry-left content at entry)
 
 -- the rest counts only behind an entry
 same_behind : (past entry : Bool) (none fault : Result (List Entry) ℕ) (change : Result (List Entry) ℕ → Result (List Entry) ℕ) (behind other : Result (List Entry) ℕ)
@@ -102,3 +112,6 @@ walk_ends content found at walked past =
 pub walk_stops : (content : List ℕ) (found : List Entry) (at : ℕ) → IsWalkedTo content found at → at < length content → is_entry content at ≡ false → entries_of content ≡ Err at
 walk_stops content found at walked inside no_entry =
     walked.whole ∙ ap (λ rest. with_value (λ entries. found ++ entries) rest) (entries_from_fault content at inside no_entry)
+
+-- the laws by which a walk reads a record's length
+pub ruleset entry_laws = (entry-len, entry-left)

@@ -1,12 +1,13 @@
 -- What holds of a superblock in which nothing is wrong.
-use Rattle.std.specs.Prelude.{◌≡◌, ℕ, ◌*◌, ◌/◌, ◌%◌, ◌≤◌, ℤ, pos, negsuc, int_lt, Bool, true, false, not, ◌&&◌, ◌||◌, ◌==◌, nat_le, nat_lt, if◌then◌else◌, Some, None, List, [], ◌∷◌, refl}
+use Rattle.std.specs.Prelude.{◌≡◌, ℕ, ◌*◌, ◌/◌, ◌%◌, ◌≤◌, ℤ, pos, negsuc, int_lt, Bool, true, false, not, ◌&&◌, ◌==◌, nat_le, if◌then◌else◌, Some, None, List, [], ◌∷◌, refl}
 use Rattle.std.proofs.Common.{arith}
 use Rattle.std.proofs.lemmas.Bool.{leb-true, ltb-false}
 use Rattle.std.proofs.lemmas.Bool.Decides.{Decides-eqb}
 use Rattle.std.proofs.lemmas.Int.{ints}
 use Rattle.std.specs.Int.{is_power_of_two}
+use Rattle.std.specs.List.{list_any}
 use Rattle.ufs_defs.specs.Signed.{counted}
-use Rattle.ufs_defs.specs.Superblock.{first_applying, wrong_parts, wrong_field, is_block_size, is_fragment_size, is_fragment_count}
+use Rattle.ufs_defs.specs.Superblock.{first_applying, wrong_parts, wrong_field, is_block_size, is_fragment_size, is_fragment_count, is_inode_count}
 use Rattle.ufs_defs.specs.declared.superblock.Superblock.{Superblock}
 
 -- the sizes and counts of a sound superblock
@@ -44,30 +45,30 @@ both_hold : (first second : Bool) → (first && second) ≡ true → (first ≡ 
 both_hold true second both = (refl, both)
 both_hold false second both = absurd cc
 
-neither_holds : (first second : Bool) → (first || second) ≡ false → (first ≡ false) × (second ≡ false)
-neither_holds true second neither = absurd cc
-neither_holds false second neither = (refl, neither)
-
 block_sizes : (size : ℕ) → not (is_block_size size) ≡ false → (4096 ≤ size) × (size ≤ 65536)
+unfolding is_block_size
 block_sizes size none =
     let sizes = both_hold (nat_le 4096 size) (nat_le size 65536) (both_hold (is_power_of_two size) (nat_le 4096 size && nat_le size 65536) (it_holds (is_block_size size) none)).1 in
     (leb-true 4096 size sizes.0, leb-true size 65536 sizes.1)
 
 fragment_sizes : (size : ℕ) → not (is_fragment_size size) ≡ false → 512 ≤ size
+unfolding is_fragment_size
 fragment_sizes size none = leb-true 512 size (both_hold (is_power_of_two size) (nat_le 512 size) (it_holds (is_fragment_size size) none)).1
 
-fragment_counts : (frag fragment block : ℕ) → not (is_fragment_count frag && frag * fragment == block) ≡ false → frag * fragment ≡ block
-fragment_counts frag fragment block none =
-    let equal : (frag * fragment == block) ≡ true = (both_hold (is_fragment_count frag) (frag * fragment == block) (it_holds (is_fragment_count frag && frag * fragment == block) none)).1 in
-    (Decides-eqb (frag * fragment) block).0 equal
+fragment_counts : (count fragment block : ℕ) → not (is_fragment_count count fragment block) ≡ false → count * fragment ≡ block
+unfolding is_fragment_count
+fragment_counts count fragment block none =
+    (Decides-eqb (count * fragment) block).0
+    (both_hold (list_any (λ n. count == n) (1 ∷ 2 ∷ 4 ∷ 8 ∷ [])) (count * fragment == block) (it_holds (is_fragment_count count fragment block) none)).1
 
 equal : (a b : ℕ) → not (a == b) ≡ false → a ≡ b
 equal a b none = (Decides-eqb a b).0 (it_holds (a == b) none)
 
-group_sizes : (inodes in_block : ℕ) → (nat_lt inodes 1 || not (inodes % in_block == 0)) ≡ false → (1 ≤ inodes) × (inodes % in_block ≡ 0)
+group_sizes : (inodes in_block : ℕ) → not (is_inode_count inodes in_block) ≡ false → (1 ≤ inodes) × (inodes % in_block ≡ 0)
+unfolding is_inode_count
 group_sizes inodes in_block none =
-    let both = neither_holds (nat_lt inodes 1) (not (inodes % in_block == 0)) none in
-    (ltb-false inodes 1 both.0, equal (inodes % in_block) 0 both.1)
+    let both = both_hold (nat_le 1 inodes) (inodes % in_block == 0) (it_holds (is_inode_count inodes in_block) none) in
+    (leb-true 1 inodes both.0, (Decides-eqb (inodes % in_block) 0).0 both.1)
 
 counts_one : (n : ℤ) → int_lt n (pos 1) ≡ false → 1 ≤ counted n
 counts_one (pos n) none = grind (arith, ints)

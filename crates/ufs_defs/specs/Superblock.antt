@@ -1,5 +1,5 @@
 -- The superblock: FreeBSD's sys/ufs/ffs/fs.h, struct fs. All its numbers have the lowest byte first.
-use Rattle.std.specs.Prelude.{ℕ, ◌*◌, ◌/◌, ◌%◌, pos, int_lt, Bool, not, ◌&&◌, ◌||◌, ◌==◌, nat_le, nat_lt, if◌then◌else◌, Option, Some, None, List, [], ◌∷◌}
+use Rattle.std.specs.Prelude.{ℕ, ◌*◌, ◌/◌, ◌%◌, pos, int_lt, Bool, not, ◌&&◌, ◌==◌, nat_le, nat_lt, if◌then◌else◌, Option, Some, None, List, [], ◌∷◌}
 use Rattle.std.specs.List.{list_any}
 use Rattle.std.specs.Int.{w32, is_power_of_two}
 use Rattle.image_defs.specs.Numbers.{little_at, little_signed_at}
@@ -29,16 +29,20 @@ first_applying [] = None
 first_applying (part ∷ parts) = if part.0 then Some part.1 else first_applying parts
 
 -- a block has a power of two of bytes, from 4,096 to 65,536
-abbrev pub is_block_size : ℕ → Bool
+unfoldable pub is_block_size : ℕ → Bool
 is_block_size size = is_power_of_two size && (nat_le 4096 size && nat_le size 65536)
 
 -- a fragment has a power of two of bytes, at least 512
-abbrev pub is_fragment_size : ℕ → Bool
+unfoldable pub is_fragment_size : ℕ → Bool
 is_fragment_size size = is_power_of_two size && nat_le 512 size
 
--- a block has 1, 2, 4 or 8 fragments
-abbrev pub is_fragment_count : ℕ → Bool
-is_fragment_count count = list_any (λ n. count == n) (1 ∷ 2 ∷ 4 ∷ 8 ∷ [])
+-- a block has 1, 2, 4 or 8 fragments, and these are all of its bytes
+unfoldable pub is_fragment_count : ℕ → ℕ → ℕ → Bool
+is_fragment_count count fragment block = list_any (λ n. count == n) (1 ∷ 2 ∷ 4 ∷ 8 ∷ []) && count * fragment == block
+
+-- a group has some blocks of inodes
+unfoldable pub is_inode_count : ℕ → ℕ → Bool
+is_inode_count inodes in_block = nat_le 1 inodes && inodes % in_block == 0
 
 -- what can be wrong with the superblock of a UFS2, in order, and the place in the superblock of the field that is
 -- then wrong
@@ -46,10 +50,10 @@ abbrev pub wrong_parts : Superblock → List (Bool × ℕ)
 wrong_parts superblock =
     (not (is_block_size (counted superblock.bsize)), 48)
     ∷ (not (is_fragment_size (counted superblock.fsize)), 52)
-    ∷ (not (is_fragment_count (counted superblock.frag) && counted superblock.frag * counted superblock.fsize == counted superblock.bsize), 56)
+    ∷ (not (is_fragment_count (counted superblock.frag) (counted superblock.fsize) (counted superblock.bsize)), 56)
     ∷ (not (superblock.nindir == counted superblock.bsize / 8), 116)
     ∷ (not (superblock.inopb == counted superblock.bsize / 256), 120)
-    ∷ (nat_lt superblock.ipg 1 || not (superblock.ipg % superblock.inopb == 0), 184)
+    ∷ (not (is_inode_count superblock.ipg superblock.inopb), 184)
     ∷ (int_lt superblock.fpg (pos 1), 188)
     ∷ (nat_lt superblock.ncg 1, 44)
     ∷ (int_lt superblock.iblkno (pos 0), 16)

@@ -264,3 +264,27 @@ visits_first_files image size superblock long kind is =
     (visits_check_true image (is_first_kind (fitting_kind (probes_of image))) NotFirstForm _ kind
     ∙ visits_bind_ok image first_superblock _ superblock is
     ∙ ap (λ ranges. ranges ++ visits image (files_below size superblock)) (visits_first_superblock image))
+
+-- all ranges at which the definition looks on an image of the first form
+abbrev pub first_places : Superblock → Inode → ℕ → List Range
+first_places superblock root number =
+    probe_places
+    ++ record { at = 65536; len = 1376 }
+    ∷ record { at = inode_place superblock 2; len = 256 }
+    ∷ record { at = first_block superblock root; len = root.size }
+    ∷ record { at = inode_place superblock number; len = 256 }
+    ∷ []
+
+pub visits_first_form : (image : List ℕ) (size : ℕ) (superblock : Superblock) (root : Inode) (entry : Entry) (named : NamedInode)
+    → is_first_length size ≡ true → is_first_kind (fitting_kind (probes_of image)) ≡ true → run image first_superblock ≡ Ok superblock
+    → is_first_inode size superblock 2 ≡ true → run image (first_root size superblock) ≡ Ok root → run image (first_entries superblock root) ≡ Ok (entry ∷ [])
+    → is_first_entry entry ≡ true → is_first_inode size superblock entry.inode ≡ true → run image (first_file size superblock entry) ≡ Ok named
+    → visits image (first_files size) ≡ first_places superblock root entry.inode
+visits_first_form image size superblock root entry named long kind is root_inside root_is listing good inside leads =
+    visits_first_files image size superblock long kind is
+    ∙ ap (λ ranges. probe_places ++ (record { at = 65536; len = 1376 } ∷ ranges))
+    (visits_files_below image size superblock root entry named root_is listing leads
+    ∙ ap (λ ranges. ranges ++ (visits image (first_entries superblock root) ++ visits image (first_file size superblock entry))) (visits_first_root image size superblock ∙ visits_first_inode image size superblock 2 root_inside)
+    ∙ ap (λ ranges. record { at = inode_place superblock 2; len = 256 } ∷ (ranges ++ visits image (first_file size superblock entry))) (visits_first_entries image superblock root)
+    ∙ ap (λ ranges. record { at = inode_place superblock 2; len = 256 } ∷ record { at = first_block superblock root; len = root.size } ∷ ranges)
+    (visits_first_file image size superblock entry good ∙ visits_first_inode image size superblock entry.inode inside))

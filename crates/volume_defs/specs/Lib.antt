@@ -5,4 +5,9 @@ pub mod RowsT
 pub mod FirstTree
 pub mod FirstFootprint
 pub mod FirstReader
+pub mod FirstKept
+pub mod FirstInvariants
+pub mod FirstLooks
+pub mod FirstTreeLaw
+pub mod GuardT
 pub mod FirstRanges

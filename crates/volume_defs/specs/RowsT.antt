@@ -10,15 +10,15 @@ use Rattle.rx_tree.specs.declared.part.Role.TheVariants.{Content}
 use Rattle.rx_tree.specs.declared.file.Kind.TheVariants.{File, Dir}
 use Rattle.rx_tree.specs.declared.file.FileEntry.{FileEntry}
 use Rattle.rx_tree.specs.declared.volume.FsKind.TheVariants.{Ufs2}
-use Rattle.ufs_defs.specs.Superblock.{superblock_of, wrong_field}
+use Rattle.ufs_defs.specs.Superblock.{superblock_of, wrong_field, is_block_size, is_fragment_size, is_fragment_count, is_inode_count}
 use Rattle.ufs_defs.specs.Inode.{inode_place, inode_of}
-use Rattle.ufs_defs.specs.Directory.{entries_of, entries_from, entries_within}
+use Rattle.ufs_defs.specs.Directory.{entries_of, entries_from, entries_within, is_entry}
 use Rattle.ufs_defs.specs.Blocks.{first_block, one_block_content}
 use Rattle.volume_defs.specs.Kind.{kind_of}
 use Rattle.volume_defs.specs.FirstForm.{FirstFault, NotFirstForm, first_files, files_below, first_file, first_entries, first_root, first_inode, first_superblock, is_first_superblock, is_first_inode, has_first_block, is_first_root, is_first_entry, is_first_file, is_small_file}
 use Rattle.volume_defs.specs.ImageT.{image_t}
 
-length_t : length image_t ≡ 262144
+pub length_t : length image_t ≡ 262144
 unfolding image_t
 length_t = refl
 
@@ -27,7 +27,7 @@ unfolding image_t kind_of part
 kind_t = refl
 
 superblock_t : wrong_field (superblock_of (part image_t 65536 1376)) ≡ None
-unfolding image_t part superblock_of wrong_field little_at little_signed_at ones
+unfolding image_t part superblock_of wrong_field is_block_size is_fragment_size is_fragment_count is_inode_count little_at little_signed_at ones
 superblock_t = refl
 
 root_place_t : inode_place (superblock_of (part image_t 65536 1376)) 2 ≡ 74240
@@ -43,7 +43,7 @@ entries_t : entries_of (part image_t 81920 512) ≡ Ok (
     ∷ record { at = 12; inode = 2; len = 12; name = 46 ∷ 46 ∷ [] }
     ∷ record { at = 24; inode = 3; len = 488; name = 97 ∷ [] }
     ∷ [])
-unfolding image_t part entries_from entries_within little_at
+unfolding image_t part entries_from entries_within is_entry little_at
 entries_t = refl
 
 -- the root, and the file "a" of three bytes
@@ -78,7 +78,7 @@ files_t =
     ∷ []
 
 pub run_t : run image_t (first_files 262144) ≡ Ok files_t
-unfolding image_t part little_at little_signed_at superblock_of wrong_field inode_place inode_of entries_from entries_within first_block one_block_content kind_of first_files files_below first_file first_entries first_root first_inode first_superblock is_first_superblock is_first_inode has_first_block is_first_root is_first_entry is_first_file is_small_file ones
+unfolding image_t part little_at little_signed_at superblock_of wrong_field inode_place inode_of entries_from entries_within is_entry first_block one_block_content kind_of first_files files_below first_file first_entries first_root first_inode first_superblock is_first_superblock is_first_inode has_first_block is_first_root is_first_entry is_first_file is_small_file is_block_size is_fragment_size is_fragment_count is_inode_count ones
 run_t = refl
 
 -- the bytes on which that rests
@@ -96,33 +96,33 @@ visits_of_t =
     ∷ []
 
 pub visits_t : visits image_t (first_files 262144) ≡ visits_of_t
-unfolding image_t part little_at little_signed_at superblock_of wrong_field inode_place inode_of entries_from entries_within first_block one_block_content kind_of first_files files_below first_file first_entries first_root first_inode first_superblock is_first_superblock is_first_inode has_first_block is_first_root is_first_entry is_first_file is_small_file ones
+unfolding image_t part little_at little_signed_at superblock_of wrong_field inode_place inode_of entries_from entries_within is_entry first_block one_block_content kind_of first_files files_below first_file first_entries first_root first_inode first_superblock is_first_superblock is_first_inode has_first_block is_first_root is_first_entry is_first_file is_small_file is_block_size is_fragment_size is_fragment_count is_inode_count ones
 visits_t = refl
 
 -- without its last byte, the file's block isn't whole
 cut_block_t : run (take 90111 image_t) (first_files 90111) ≡ Err NotFirstForm
-unfolding image_t part little_at little_signed_at superblock_of wrong_field inode_place inode_of entries_from entries_within first_block one_block_content kind_of first_files files_below first_file first_entries first_root first_inode first_superblock is_first_superblock is_first_inode has_first_block is_first_root is_first_entry is_first_file is_small_file ones
+unfolding image_t part little_at little_signed_at superblock_of wrong_field inode_place inode_of entries_from entries_within is_entry first_block one_block_content kind_of first_files files_below first_file first_entries first_root first_inode first_superblock is_first_superblock is_first_inode has_first_block is_first_root is_first_entry is_first_file is_small_file is_block_size is_fragment_size is_fragment_count is_inode_count ones
 cut_block_t = refl
 
 -- cut inside what the kind rests on, or empty
 cut_t : run (take 1000 image_t) (first_files 1000) ≡ Err NotFirstForm
-unfolding image_t part little_at little_signed_at superblock_of wrong_field inode_place inode_of entries_from entries_within first_block one_block_content kind_of first_files files_below first_file first_entries first_root first_inode first_superblock is_first_superblock is_first_inode has_first_block is_first_root is_first_entry is_first_file is_small_file ones
+unfolding image_t part little_at little_signed_at superblock_of wrong_field inode_place inode_of entries_from entries_within is_entry first_block one_block_content kind_of first_files files_below first_file first_entries first_root first_inode first_superblock is_first_superblock is_first_inode has_first_block is_first_root is_first_entry is_first_file is_small_file is_block_size is_fragment_size is_fragment_count is_inode_count ones
 cut_t = refl
 
 empty_t : run [] (first_files 0) ≡ Err NotFirstForm
-unfolding image_t part little_at little_signed_at superblock_of wrong_field inode_place inode_of entries_from entries_within first_block one_block_content kind_of first_files files_below first_file first_entries first_root first_inode first_superblock is_first_superblock is_first_inode has_first_block is_first_root is_first_entry is_first_file is_small_file ones
+unfolding image_t part little_at little_signed_at superblock_of wrong_field inode_place inode_of entries_from entries_within is_entry first_block one_block_content kind_of first_files files_below first_file first_entries first_root first_inode first_superblock is_first_superblock is_first_inode has_first_block is_first_root is_first_entry is_first_file is_small_file is_block_size is_fragment_size is_fragment_count is_inode_count ones
 empty_t = refl
 
 -- the first pointer of inode 3 leads to the block at the image's end
 pointer_t : run (slice_set image_t 74608 64) (first_files 262144) ≡ Err NotFirstForm
-unfolding image_t part little_at little_signed_at superblock_of wrong_field inode_place inode_of entries_from entries_within first_block one_block_content kind_of first_files files_below first_file first_entries first_root first_inode first_superblock is_first_superblock is_first_inode has_first_block is_first_root is_first_entry is_first_file is_small_file ones
+unfolding image_t part little_at little_signed_at superblock_of wrong_field inode_place inode_of entries_from entries_within is_entry first_block one_block_content kind_of first_files files_below first_file first_entries first_root first_inode first_superblock is_first_superblock is_first_inode has_first_block is_first_root is_first_entry is_first_file is_small_file is_block_size is_fragment_size is_fragment_count is_inode_count ones
 pointer_t = refl
 
 -- the superblock tells of blocks without a byte
 block_size_t : run (slice_set image_t 65585 0) (first_files 262144) ≡ Err NotFirstForm
-unfolding image_t part little_at little_signed_at superblock_of wrong_field inode_place inode_of entries_from entries_within first_block one_block_content kind_of first_files files_below first_file first_entries first_root first_inode first_superblock is_first_superblock is_first_inode has_first_block is_first_root is_first_entry is_first_file is_small_file ones
+unfolding image_t part little_at little_signed_at superblock_of wrong_field inode_place inode_of entries_from entries_within is_entry first_block one_block_content kind_of first_files files_below first_file first_entries first_root first_inode first_superblock is_first_superblock is_first_inode has_first_block is_first_root is_first_entry is_first_file is_small_file is_block_size is_fragment_size is_fragment_count is_inode_count ones
 block_size_t = refl
 
 block_size_field_t : wrong_field (superblock_of (part (slice_set image_t 65585 0) 65536 1376)) ≡ Some 48
-unfolding image_t part superblock_of wrong_field little_at little_signed_at ones
+unfolding image_t part superblock_of wrong_field is_block_size is_fragment_size is_fragment_count is_inode_count little_at little_signed_at ones
 block_size_field_t = refl

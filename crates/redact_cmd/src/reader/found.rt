@@ -1,5 +1,5 @@
 //! What a reader finds in an image of the first form, step by step.
-ghost use Rattle.std.specs.Prelude.{◌≡◌, ◌≤◌, true, length, IfOk, OnOk, IfErr, IfSome, IsErrOf};
+ghost use Rattle.std.specs.Prelude.{◌≡◌, ◌≤◌, true, length, IfOk, OnOk, IfErr, IfSome, IsErrOf, ◌≢◌, Err};
 ghost use Rattle.disk_defs.specs.Count.{Rose};
 ghost use Rattle.disk_defs.specs.Disk.{size_of, told_image};
 ghost use Rattle.disk_defs.specs.declared.Area.TheVariants.{Image};
@@ -30,6 +30,7 @@ pub(super) fn read_superblock<S: Store>(store: &mut S) -> Result<Superblock, Sta
     ensures refusals { IfErr result IsImageRefusal }
     ensures counts { S.faults store.old ≤ S.faults store.new }
     ensures cause { IsErrOf result Status.DeviceFault → Rose (S.faults store.old) (S.faults store.new) }
+    ensures calm { result ≢ Err Status.DeviceFault → S.faults store.new ≡ S.faults store.old }
 {
     let bytes: [u8; 1376] = read_bytes(store, 65_536)?;
     let superblock = superblock_from(&bytes);
@@ -55,6 +56,7 @@ fn read_inode<S: Store>(
     ensures refusals { IfErr result IsImageRefusal }
     ensures counts { S.faults store.old ≤ S.faults store.new }
     ensures cause { IsErrOf result Status.DeviceFault → Rose (S.faults store.old) (S.faults store.new) }
+    ensures calm { result ≢ Err Status.DeviceFault → S.faults store.new ≡ S.faults store.old }
 {
     if !inode_within(size, superblock, number) {
         return Err(Status::NotBuilt);
@@ -78,6 +80,7 @@ pub(super) fn read_root<S: Store>(
     ensures refusals { IfErr result IsImageRefusal }
     ensures counts { S.faults store.old ≤ S.faults store.new }
     ensures cause { IsErrOf result Status.DeviceFault → Rose (S.faults store.old) (S.faults store.new) }
+    ensures calm { result ≢ Err Status.DeviceFault → S.faults store.new ≡ S.faults store.old }
 {
     let root = read_inode(store, size, superblock, 2)?;
     if may_be_root(size, superblock, &root) {
@@ -104,6 +107,7 @@ pub(super) fn read_content<S: Store>(
     ensures refusals { IfErr result IsReadFailure }
     ensures counts { S.faults store.old ≤ S.faults store.new }
     ensures cause { IsErrOf result Status.DeviceFault → Rose (S.faults store.old) (S.faults store.new) }
+    ensures calm { result ≢ Err Status.DeviceFault → S.faults store.new ≡ S.faults store.old }
 {
     let mut content = vec![in alloc; 0; root.size as usize]?;
     read_part(store, block_at(size, superblock, root), &mut content)?;
@@ -129,6 +133,7 @@ pub(super) fn read_file<'a, S: Store>(
     ensures refusals { IfErr result IsImageRefusal }
     ensures counts { S.faults store.old ≤ S.faults store.new }
     ensures cause { IsErrOf result Status.DeviceFault → Rose (S.faults store.old) (S.faults store.new) }
+    ensures calm { result ≢ Err Status.DeviceFault → S.faults store.new ≡ S.faults store.old }
 {
     if !may_be_named(&leading) {
         return Err(Status::NotBuilt);

@@ -1,5 +1,5 @@
 //! The kind of an image.
-ghost use Rattle.std.specs.Prelude.{◌≡◌, ◌≤◌, length, IfErr, IfSome, IsErrOf};
+ghost use Rattle.std.specs.Prelude.{◌≡◌, ◌≤◌, length, IfErr, IfSome, IsErrOf, ◌≢◌, Err};
 ghost use Rattle.disk_defs.specs.Count.{Rose};
 ghost use Rattle.disk_defs.specs.Disk.{size_of, told_image};
 ghost use Rattle.disk_defs.specs.declared.Area.TheVariants.{Image};
@@ -48,6 +48,7 @@ pub(super) fn read_kind<S: Store>(store: &mut S) -> Result<(), Status>
     ensures refusals { IfErr result IsImageRefusal }
     ensures counts { S.faults store.old ≤ S.faults store.new }
     ensures cause { IsErrOf result Status.DeviceFault → Rose (S.faults store.old) (S.faults store.new) }
+    ensures calm { result ≢ Err Status.DeviceFault → S.faults store.new ≡ S.faults store.old }
 {
     let ntfs_name: [u8; 8] = read_bytes(store, 3)?;
     let ntfs_mark: [u8; 2] = read_bytes(store, 510)?;

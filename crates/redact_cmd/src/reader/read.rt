@@ -17,6 +17,7 @@ pub(super) fn read_part<S: Store>(store: &mut S, at: u64, buf: &mut [u8]) -> Res
     ensures refusals { IfErr result (λ status. status ≡ DeviceFault) }
     ensures counts { S.faults store.old ≤ S.faults store.new }
     ensures cause { OnErr result (Rose (S.faults store.old) (S.faults store.new)) }
+    ensures calm { OnOk result (S.faults store.new ≡ S.faults store.old) }
 {
     match store.read_at(Area::Image, at, buf) {
         Ok(()) => Ok(()),
@@ -36,6 +37,7 @@ pub(super) fn read_bytes<const N: usize, S: Store>(
     ensures refusals { IfErr result (λ status. status ≡ DeviceFault) }
     ensures counts { S.faults store.old ≤ S.faults store.new }
     ensures cause { OnErr result (Rose (S.faults store.old) (S.faults store.new)) }
+    ensures calm { OnOk result (S.faults store.new ≡ S.faults store.old) }
 {
     let mut bytes = [0; N];
     read_part(store, at, &mut bytes)?;

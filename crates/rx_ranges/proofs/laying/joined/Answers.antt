@@ -2,7 +2,7 @@ use Rattle.std.proofs.Common.{◌≡◌, ℕ, ◌+◌, ◌∷◌, false, List, g
 use Rattle.std.specs.List.{All}
 use Rattle.std.proofs.lemmas.List.Elements.{All-head, All-tail, All-get_or, All-rest, All-same}
 use Rattle.range_defs.specs.declared.Claim.{Claim}
-use Rattle.range_defs.specs.Claims.{painted, IsFillMap}
+use Rattle.range_defs.specs.Claims.{painted}
 use Rattle.range_defs.specs.Places.{EndsInReach}
 use Rattle.rx_ranges.specs.Laying.{AreApart, HasFill}
 use Rattle.rx_ranges.proofs.Joining.{joins, joined_to, painted-joined, kept-joined, joins-both, joins-rule, joins-away}
@@ -16,7 +16,7 @@ Reaches claim = EndsInReach claim.range
 pub overflow_add-last : goal.overflow_add-last
 overflow_add-last c =
     let reach = All-get_or Reaches c.in-Some.others.now c.loop-next.next-index (record { range = record { at = 0; len = 0 }; rule = 0; fill = 0 }) c.loop-next-test.true
-        (All-rest Reaches c.in-Some.first.now c.in-Some.others.now c.args.laid.now c.in-Some.ensures.cases.0 c.requires.reach) in
+    (All-rest Reaches c.in-Some.first.now c.in-Some.others.now c.args.laid.now c.in-Some.ensures.cases.0 c.requires.reach) in
     omega (arith, reach)
 
 pub loop-next-preserved : goal.loop-next-preserved
@@ -26,35 +26,35 @@ loop-next-preserved c =
     let next : Claim = get_or c.in-Some.others.now c.loop-next.next-index none in
     let reach = All-rest Reaches c.in-Some.first.now c.in-Some.others.now c.args.laid.now c.in-Some.ensures.cases.0 c.requires.reach in
     elim c.if-next-last.branch [
-      then-next-last+then-next-end w ↦
-        let at : next.range.at ≡ c.loop-next.last.range.at + c.loop-next.last.range.len = w.if-next-end.true ∙ w.end.ensures in
-        so_far-grows whole c.in-Some.others.now c.loop-next.out.items c.if-next-last.out.items c.loop-next.last c.if-next-last.last none c.loop-next.next-index
-            c.loop-next.invariant reach c.loop-next-test.true (joins-both c.loop-next.last next w.if-next-last.true at) at (ap (λ v. v.items) w.out-is) w.last-is
-    | else-next-last+in_ok-push w ↦
-        let apart : joins c.loop-next.last next ≡ false =
-            elim w.else-next-last.branch [
-              else-next-last-via-then-next-last+else-next-end w' ↦ joins-away c.loop-next.last next (λ at. w'.if-next-end.false (at ∙ sym w'.end.ensures))
+      | then-next-last+then-next-end w ↦
+          let at : next.range.at ≡ c.loop-next.last.range.at + c.loop-next.last.range.len = w.if-next-end.true ∙ w.end.ensures in
+          so_far-grows whole c.in-Some.others.now c.loop-next.out.items c.if-next-last.out.items c.loop-next.last c.if-next-last.last none c.loop-next.next-index
+          c.loop-next.invariant reach c.loop-next-test.true (joins-both c.loop-next.last next w.if-next-last.true at) at (ap (λ v. v.items) w.out-is) w.last-is
+      | else-next-last+in_ok-push w ↦
+          let apart : joins c.loop-next.last next ≡ false =
+          elim w.else-next-last.branch [
+            | else-next-last-via-then-next-last+else-next-end w' ↦ joins-away c.loop-next.last next (λ at. w'.if-next-end.false (at ∙ sym w'.end.ensures))
             | else-next-last-via-else-next-last w' ↦ joins-rule c.loop-next.last next w'.if-next-last.false
-            ] in
-        so_far-apart whole c.in-Some.others.now c.loop-next.out.items c.if-next-last.out.items c.loop-next.last c.if-next-last.last none c.loop-next.next-index
-            c.loop-next.invariant reach c.loop-next-test.true apart (ap (λ v. v.items) w.out-is ∙ w.in_ok-push.ensures.items) w.last-is
+          ] in
+          so_far-apart whole c.in-Some.others.now c.loop-next.out.items c.if-next-last.out.items c.loop-next.last c.if-next-last.last none c.loop-next.next-index
+          c.loop-next.invariant reach c.loop-next-test.true apart (ap (λ v. v.items) w.out-is ∙ w.in_ok-push.ensures.items) w.last-is
     ]
 
 -- what is written at the end are the claims joined
 written : (c : goal.In_ok-push-2) → c.push-2.new.self.items ≡ joined_to c.in-Some.first.now c.in-Some.others.now
 written c =
     so_far-done (joined_to c.in-Some.first.now c.in-Some.others.now) c.in-Some.others.now c.loop-next.out.items c.push-2.new.self.items c.loop-next.last c.loop-next.next-index
-        c.loop-next.invariant c.loop-next-test.false c.in_ok-push-2.ensures.items
+    c.loop-next.invariant c.loop-next-test.false c.in_ok-push-2.ensures.items
 
 pub returns-clause-bytes : goal.returns-clause-bytes
 returns-clause-bytes c = λ byte.
     let fill : ℕ → ℕ = c.requires.one_fill.0 in
     let have : All (HasFill fill) (c.in-Some.first.now ∷ c.in-Some.others.now) =
-        All-same (HasFill fill) (c.in-Some.first.now ∷ c.in-Some.others.now) c.args.laid.now (sym c.in-Some.ensures.cases.0) c.requires.one_fill.1 in
+    All-same (HasFill fill) (c.in-Some.first.now ∷ c.in-Some.others.now) c.args.laid.now (sym c.in-Some.ensures.cases.0) c.requires.one_fill.1 in
     ap (λ (xs : List Claim). painted xs byte) (written c)
-        ∙ painted-joined fill c.in-Some.first.now c.in-Some.others.now byte (All-head (HasFill fill) c.in-Some.first.now c.in-Some.others.now have)
-            (All-tail (HasFill fill) c.in-Some.first.now c.in-Some.others.now have)
-        ∙ ap (λ (xs : List Claim). painted xs byte) (sym c.in-Some.ensures.cases.0)
+    ∙ painted-joined fill c.in-Some.first.now c.in-Some.others.now byte (All-head (HasFill fill) c.in-Some.first.now c.in-Some.others.now have)
+    (All-tail (HasFill fill) c.in-Some.first.now c.in-Some.others.now have)
+    ∙ ap (λ (xs : List Claim). painted xs byte) (sym c.in-Some.ensures.cases.0)
 
 pub returns-clause-kept : goal.returns-clause-kept
 returns-clause-kept c =

@@ -7,7 +7,7 @@ abbrev pub invariant-loop-done : goal.invariant-loop-done
 invariant-loop-done g l = record {
   within : l.done ≤ length l.bytes;
   taken : g.K.Sink.taken l.sink ≡ taken_with (g.K.Sink.taken l.fn.sink) (take l.done l.bytes);
-  counts : g.K.Sink.faults l.fn.sink ≤ g.K.Sink.faults l.sink;
+  calm : g.K.Sink.faults l.sink ≡ g.K.Sink.faults l.fn.sink;
 }
 
 abbrev pub decreases-loop-done : goal.decreases-loop-done

@@ -8,7 +8,7 @@ invariant-reading g l = record {
   block : length l.block ≡ 4096;
   within : length l.text.items ≤ l.limit;
   so_far : ReadSoFar (g.R.Source.rest l.fn.source) (g.R.Source.rest l.source) l.text.items;
-  counts : g.R.Source.faults l.fn.source ≤ g.R.Source.faults l.source;
+  calm : g.R.Source.faults l.source ≡ g.R.Source.faults l.fn.source;
 }
 
 abbrev pub decreases-reading : goal.decreases-reading

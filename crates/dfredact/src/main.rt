@@ -1,0 +1,57 @@
+//! dfredact: makes an inventory of a raw disk image, and erases from it what rules select.
+#![tactic(auto)]
+
+use std::alloc::AllocError;
+use std::env;
+use std::fs::File;
+use std::io::{self, ErrorKind};
+use std::process::ExitCode;
+use std::rt::{Env, Files};
+
+use redact_cmd::{Command, Status, parse_words, run, write_status};
+use rx_store::{FileStore, NoMemory, Opened, StdSink, StdSource};
+
+/// The words behind the program's name. Words that aren't all UTF-8 are none.
+fn words_of(rt: &(impl Env + AllocGlobal)) -> Result<Vec<String>, NoMemory> {
+    match env::args(rt) {
+        Ok(args) => args.skip(1).collect(rt.alloc()),
+        Err(error) if error.kind() == ErrorKind::OutOfMemory => Err(AllocError),
+        Err(_) => Ok(Vec::new(rt.alloc())),
+    }
+}
+
+/// The files of a command: its image and its rule text. A command that isn't built has none.
+fn files_of(words: &[String]) -> Option<(&str, &str)> {
+    match (parse_words(words), words) {
+        (Some(Command::Plan), [_, image, rules]) => Some((image.as_str(), rules.as_str())),
+        _ => None,
+    }
+}
+
+fn opened(rt: &impl Files<File = File>, path: &str) -> Opened {
+    match File::open(rt, path) {
+        Ok(file) => Opened::Open(file),
+        Err(_) => Opened::Failed,
+    }
+}
+
+/// Carries out the command of the words over the real files and the standard output.
+fn answer(rt: &HostRuntime) -> Status {
+    let Ok(words) = words_of(rt) else {
+        return Status::NoMemory;
+    };
+    let (image, rules) = match files_of(&words) {
+        Some((image, rules)) => (opened(rt, image), File::open(rt, rules).ok()),
+        None => (Opened::Absent, None),
+    };
+    let mut store = FileStore::new(image, Opened::Absent);
+    let mut source = StdSource::new(rules);
+    let mut out = StdSink::new(io::writer(rt));
+    run(rt.alloc(), &words, &mut store, &mut source, &mut out)
+}
+
+fn main(rt: HostRuntime) -> ExitCode {
+    let status = answer(&rt);
+    let _ = write_status(&status, &mut StdSink::new(rt.stderr()));
+    ExitCode::from(status.code())
+}

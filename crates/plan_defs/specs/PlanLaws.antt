@@ -1,0 +1,242 @@
+-- Laws on the claims on files, the lines of a listing and the plan: what a reader of the plan's parts needs to know that
+-- they are the plan.
+use Rattle.std.proofs.Common.{◌≡◌, ℕ, zero, suc, ◌+◌, ◌<◌, ◌≤◌, Bool, true, false, ◌&&◌, cond, Option, Some, None, is_some, List, [], ◌∷◌, map, length, get_or, refl, sym, ◌∙◌, ap, subst, arith}
+use mathlib.Core.Path.{fun_ext}
+use Rattle.std.specs.List.{All, flat_map}
+use Rattle.std.proofs.lemmas.List.Elements.{All-nil, All-cons, All-append, All-map, All-weaker, All-same}
+use Rattle.std.proofs.lemmas.Bool.{cond_both, and_right}
+use Rattle.range_defs.specs.declared.Range.{Range}
+use Rattle.range_defs.specs.declared.Claim.{Claim}
+use Rattle.range_defs.specs.Places.{covers, IsLeast, least_below, EndsInReach}
+use Rattle.range_defs.specs.RangeLaws.{EndsBy as RangeEndsBy}
+use Rattle.range_defs.specs.LeastLaws.{same_as_least_below}
+use Rattle.range_defs.specs.Claims.{painted, longest_claims, IsFillMap, HaveOneFill}
+use Rattle.range_defs.specs.ClaimLaws.{EndsBy, same_as_longest_claims, ends_where_painted}
+use Rattle.rx_ranges.specs.declared.pieces.PieceKind.{PieceKind}
+use Rattle.rx_ranges.specs.declared.pieces.PieceKind.TheVariants.{Disk, Zero}
+use Rattle.rx_ranges.specs.declared.plan.Plan.{Plan}
+use Rattle.rx_ranges.specs.declared.plan.Listed.{Listed}
+use Rattle.rx_ranges.specs.declared.plan.ListKind.TheVariants as kinds
+use Rattle.rx_tree.specs.declared.part.Role.{Role}
+use Rattle.rx_tree.specs.declared.part.Role.TheVariants as roles
+use Rattle.rx_tree.specs.declared.file.FileEntry.{FileEntry}
+use Rattle.rx_tree.specs.FoundPart.{FoundPart}
+use Rattle.rx_tree.specs.FoundTree.{FoundTree}
+use Rattle.rx_tree.specs.Within.{ArePiecesWithin, AreRangesWithin, ArePartsWithin, AreFilesWithin, IsWithin}
+use Rattle.rule_defs.specs.declared.Rule.{Rule}
+use Rattle.rule_defs.specs.declared.Action.{Action}
+use Rattle.rule_defs.specs.declared.Action.TheVariants.{Fill}
+use Rattle.rule_defs.specs.Settle.{holds, is_plain_file, settling_rule, disk_range, disk_ranges, content_range, content_ranges, fill_of, claimed_ranges, claim_by, claims_by, claims_on}
+use Rattle.plan_defs.specs.Plan.{all_claims, planned_at, is_planned, part_ranges, touched_ranges, touches_planned, lines_for, claim_some, alias_lines, file_lines, lines_of, plan_of, guarded_byte}
+use Rattle.plan_defs.specs.ClaimSets.{All-flat_map, covers-past, painted-past, covers-claims, ends_by-longest, longest-covers}
+
+-- what lies within a length has its bytes there: pieces, parts, files, claims
+disk_range-of_kind : (end from size at : ℕ) (kind : PieceKind) → at + size ≤ end
+    → All (RangeEndsBy end) (disk_range (record { from = from; len = size; kind = kind; at = at }))
+disk_range-of_kind end from size at Disk fits =
+    All-cons (RangeEndsBy end) (record { at = at; len = size }) [] fits (All-nil (RangeEndsBy end))
+disk_range-of_kind end from size at Zero fits = All-nil (RangeEndsBy end)
+
+disk_ranges-within : (end : ℕ) (part : FoundPart) → ArePiecesWithin end part.pieces → All (RangeEndsBy end) (disk_ranges part)
+disk_ranges-within end part within =
+    All-flat_map (λ piece. piece.at + piece.len ≤ end) (RangeEndsBy end) disk_range
+    (λ piece fits. disk_range-of_kind end piece.from piece.len piece.at piece.kind fits) part.pieces within
+
+content_range-of_role : (end : ℕ) (role : Role) (part : FoundPart) → ArePiecesWithin end part.pieces
+    → All (RangeEndsBy end) (content_range (record part { role = role }))
+content_range-of_role end roles.Content part within = disk_ranges-within end part within
+content_range-of_role end roles.Other part within = All-nil (RangeEndsBy end)
+
+content_ranges-within : (end : ℕ) (file : FileEntry) → ArePartsWithin end file.parts → All (RangeEndsBy end) (content_ranges file)
+content_ranges-within end file within =
+    All-flat_map (λ part. ArePiecesWithin end part.pieces × AreRangesWithin end part.slack) (RangeEndsBy end) content_range
+    (λ part fits. content_range-of_role end part.role part fits.0) file.parts within
+
+-- the bytes that a file touches end where the file does
+pub touched_ranges-within : (end : ℕ) (file : FileEntry) → ArePartsWithin end file.parts → All (RangeEndsBy end) (touched_ranges file)
+touched_ranges-within end file within =
+    All-flat_map (λ part. ArePiecesWithin end part.pieces × AreRangesWithin end part.slack) (RangeEndsBy end) part_ranges
+    (λ part fits. All-append (RangeEndsBy end) (disk_ranges part) part.slack (disk_ranges-within end part fits.0) fits.1) file.parts within
+
+claimed-within : (end : ℕ) (action : Action) (file : FileEntry) → ArePartsWithin end file.parts
+    → All (RangeEndsBy end) (claimed_ranges action file)
+claimed-within end (Fill byte) file within = content_ranges-within end file within
+
+claims_by-within : (end : ℕ) (settling : Option Rule) (file : FileEntry) → ArePartsWithin end file.parts
+    → All (EndsBy end) (claims_by settling file)
+claims_by-within end None file within = All-nil (EndsBy end)
+claims_by-within end (Some rule) file within =
+    All-map (EndsBy end) (claim_by rule) (claimed_ranges rule.action file) (claimed-within end rule.action file within)
+
+-- the claims on files end where the files do
+pub claims-within : (end : ℕ) (rules : List Rule) (files : List FileEntry) → AreFilesWithin end files
+    → All (EndsBy end) (all_claims rules files)
+claims-within end rules files within =
+    All-flat_map (λ file. ArePartsWithin end file.parts) (EndsBy end) (claims_on rules)
+    (λ file fits. claims_by-within end (settling_rule rules file) file fits) files within
+
+-- what a file is said to lie within can be longer
+pub parts-longer : (short long : ℕ) (parts : List FoundPart) → short ≤ long → ArePartsWithin short parts → ArePartsWithin long parts
+parts-longer short long parts fits within =
+    All-weaker (λ part. ArePiecesWithin short part.pieces × AreRangesWithin short part.slack)
+    (λ part. ArePiecesWithin long part.pieces × AreRangesWithin long part.slack)
+    (λ part both. (
+      All-weaker (λ piece. piece.at + piece.len ≤ short) (λ piece. piece.at + piece.len ≤ long) (λ piece less. omega (arith, less)) part.pieces both.0,
+      All-weaker (RangeEndsBy short) (RangeEndsBy long) (λ range less. omega (arith, less)) part.slack both.1,
+    ))
+    parts within
+
+-- a file of a tree lies within the image
+pub file-within : (tree : FoundTree) (files : List FileEntry) (index : ℕ) (file : FileEntry) → IsWithin tree → files ≡ tree.files
+    → index < length files → file ≡ get_or files index file → ArePartsWithin tree.image_len file.parts
+file-within tree files index file within files_are inside is =
+    subst (λ (f : FileEntry). ArePartsWithin tree.image_len f.parts) (sym is)
+    (All-same (λ f. ArePartsWithin tree.image_len f.parts) files tree.files files_are within.files index file inside)
+
+-- and so in reach
+pub file-in_reach : (tree : FoundTree) (files : List FileEntry) (index : ℕ) (file : FileEntry) → IsWithin tree → files ≡ tree.files
+    → index < length files → file ≡ get_or files index file → ArePartsWithin 9223372036854775808 file.parts
+file-in_reach tree files index file within files_are inside is =
+    parts-longer tree.image_len 9223372036854775808 file.parts (omega (arith, within.in_reach))
+    (file-within tree files index file within files_are inside is)
+
+claimed_ranges-content : (action : Action) (file : FileEntry) → claimed_ranges action file ≡ content_ranges file
+claimed_ranges-content (Fill byte) file = refl
+
+-- what one rule claims of a file that it settles, and of one that it doesn't
+pub claims_on-settled : (rule : Rule) (file : FileEntry) → (is_plain_file file.kind && holds rule.condition file) ≡ true
+    → claims_on (rule ∷ []) file ≡ map (claim_by rule) (content_ranges file)
+claims_on-settled rule file settled = rw settled (ap (map (claim_by rule)) (claimed_ranges-content rule.action file))
+
+pub claims_on-unsettled : (rule : Rule) (file : FileEntry) → (is_plain_file file.kind && holds rule.condition file) ≡ false
+    → claims_on (rule ∷ []) file ≡ []
+claims_on-unsettled rule file unsettled = rw unsettled refl
+
+-- each claim of one rule has its fill
+HasFillOf : Rule → Claim → Type 0
+HasFillOf rule claim = claim.fill ≡ fill_of rule.action
+
+claims_by-filled : (rule : Rule) (file : FileEntry) → All (HasFillOf rule) (claims_by (Some rule) file)
+unfolding HasFillOf
+claims_by-filled rule file =
+    All-map (HasFillOf rule) (claim_by rule) (claimed_ranges rule.action file) (λ index other inside. refl)
+
+claims_on-filled : (rule : Rule) (file : FileEntry) → All (HasFillOf rule) (claims_on (rule ∷ []) file)
+claims_on-filled rule file =
+    cond_both (is_plain_file file.kind && holds rule.condition file) (Some rule) None
+    (λ settling. All (HasFillOf rule) (claims_by settling file))
+    (λ settled. claims_by-filled rule file)
+    (λ unsettled. All-nil (HasFillOf rule))
+
+-- the claims of one rule have one fill
+pub claims-one_fill : (rule : Rule) (files : List FileEntry) → HaveOneFill (all_claims (rule ∷ []) files)
+unfolding HasFillOf
+claims-one_fill rule files first second other before inside same_rule =
+    let filled : All (HasFillOf rule) (all_claims (rule ∷ []) files) =
+    All-flat_map (λ file. Unit {0}) (HasFillOf rule) (claims_on (rule ∷ [])) (λ file any. claims_on-filled rule file) files (λ index at within. tt) in
+    filled first other (omega arith) ∙ sym (filled second other inside)
+
+-- the lines of a file where there is one rule
+pub lines_of-one : (rule : Rule) (len : ℕ) (planned : ℕ → Bool) (file : FileEntry)
+    → lines_of (rule ∷ []) len planned file
+    ≡ cond (claim_some (claims_on (rule ∷ []) file)) (lines_for kinds.File rule.number file) (alias_lines len planned file)
+lines_of-one rule len planned file =
+    elim (is_plain_file file.kind && holds rule.condition file) as
+    (λ test. file_lines len planned (cond test (Some rule) None) (claims_by (cond test (Some rule) None) file) file
+    ≡ cond (claim_some (claims_by (cond test (Some rule) None) file)) (lines_for kinds.File rule.number file) (alias_lines len planned file))
+    [ true ↦ refl | false ↦ refl ]
+
+-- those of a file of which it claims no byte, and that touches a planned one
+pub lines_of-alias : (rule : Rule) (len : ℕ) (planned : ℕ → Bool) (file : FileEntry) → claim_some (claims_on (rule ∷ []) file) ≡ false
+    → touches_planned len planned file ≡ true → lines_for kinds.Alias 0 file ≡ lines_of (rule ∷ []) len planned file
+lines_of-alias rule len planned file unclaimed touched =
+    sym (lines_of-one rule len planned file
+    ∙ ap (λ test. cond test (lines_for kinds.File rule.number file) (alias_lines len planned file)) unclaimed
+    ∙ ap (λ test. cond test (lines_for kinds.Alias 0 file) []) touched)
+
+-- the least byte that a set and the bytes of a file share tells whether the file touches the set
+pub touches-by_least : (len : ℕ) (file : FileEntry) (planned touched : List Range) (answer : Option ℕ) → ArePartsWithin len file.parts
+    → ((byte : ℕ) → covers touched byte ≡ covers (touched_ranges file) byte)
+    → IsLeast (λ byte. covers planned byte && covers touched byte) answer
+    → is_some answer ≡ touches_planned len (covers planned) file
+touches-by_least len file planned touched answer within same least =
+    let past : (byte : ℕ) → len ≤ byte → (covers planned byte && covers touched byte) ≡ false =
+    λ byte behind. and_right (covers planned byte) (covers touched byte)
+    (same byte ∙ covers-past (touched_ranges file) len byte (touched_ranges-within len file within) behind) in
+    ap is_some (same_as_least_below (λ byte. covers planned byte && covers touched byte) len answer least past)
+    ∙ ap (λ (touched_set : ℕ → Bool). is_some (least_below (λ byte. covers planned byte && touched_set byte) len)) (fun_ext same)
+
+-- claims that end where an image does end in reach
+pub claims-in_reach : (end : ℕ) (claims : List Claim) → end ≤ 70368744177664 → All (EndsBy end) claims
+    → All (λ claim. EndsInReach claim.range) claims
+claims-in_reach end claims reach within =
+    All-weaker (EndsBy end) (λ claim. EndsInReach claim.range) (λ claim less. omega (arith, less)) claims within
+
+-- the claims on a tree's files end in reach
+pub all_claims-in_reach : (tree : FoundTree) (rules : List Rule) (files : List FileEntry) (claims : List Claim) → IsWithin tree
+    → files ≡ tree.files → claims ≡ all_claims rules files → All (λ claim. EndsInReach claim.range) claims
+all_claims-in_reach tree rules files claims within files_are claims_are =
+    All-same (λ claim. EndsInReach claim.range) claims (all_claims rules tree.files) (claims_are ∙ ap (all_claims rules) files_are)
+    (claims-in_reach tree.image_len (all_claims rules tree.files) within.in_reach (claims-within tree.image_len rules tree.files within.files))
+
+-- a map that paints as the claims on a tree's files do is the plan's, and ends where the image does
+pub ranges-within : (tree : FoundTree) (rules : List Rule) (ranges : List Claim) → IsWithin tree → IsFillMap ranges
+    → ((byte : ℕ) → painted ranges byte ≡ planned_at rules tree.files byte) → All (EndsBy tree.image_len) ranges
+ranges-within tree rules ranges within kept same =
+    ends_where_painted ranges tree.image_len kept
+    (λ byte behind. same byte ∙ painted-past (all_claims rules tree.files) tree.image_len byte
+    (claims-within tree.image_len rules tree.files within.files) behind)
+
+-- and so in reach
+pub ranges-in_reach : (tree : FoundTree) (rules : List Rule) (ranges : List Claim) → IsWithin tree → IsFillMap ranges
+    → ((byte : ℕ) → painted ranges byte ≡ planned_at rules tree.files byte) → All (λ claim. EndsInReach claim.range) ranges
+ranges-in_reach tree rules ranges within kept same =
+    claims-in_reach tree.image_len ranges within.in_reach (ranges-within tree rules ranges within kept same)
+
+-- the parts of a plan, and that they are the plan
+pub plan-by_parts : (tree : FoundTree) (rules : List Rule) (ranges : List Claim) (planned : List Range) (lines : List Listed)
+    → IsWithin tree → IsFillMap ranges → ((byte : ℕ) → painted ranges byte ≡ planned_at rules tree.files byte)
+    → ((byte : ℕ) → covers planned byte ≡ is_some (painted ranges byte))
+    → lines ≡ flat_map (lines_of rules tree.image_len (covers planned)) tree.files
+    → record { image_len = tree.image_len; ranges = ranges; listing = lines } ≡ plan_of tree rules
+unfolding plan_of
+plan-by_parts tree rules ranges planned lines within kept same planned_is lines_are =
+    let ranges_are = same_as_longest_claims (planned_at rules tree.files) tree.image_len ranges kept same (ranges-within tree rules ranges within kept same) in
+    let set_is : covers planned ≡ is_planned rules tree.files = fun_ext (λ byte. planned_is byte ∙ ap is_some (same byte)) in
+    let listing_is : lines ≡ flat_map (lines_of rules tree.image_len (is_planned rules tree.files)) tree.files =
+    lines_are ∙ ap (λ (set : ℕ → Bool). flat_map (lines_of rules tree.image_len set) tree.files) set_is in
+    cc
+
+-- the claims of a plan end where the image does
+pub plan-in_reach : (tree : FoundTree) (rules : List Rule) (plan : Plan) → IsWithin tree → plan ≡ plan_of tree rules
+    → All (λ claim. EndsInReach claim.range) plan.ranges
+unfolding plan_of
+plan-in_reach tree rules plan within is =
+    subst (λ (p : Plan). All (λ claim. EndsInReach claim.range) p.ranges) (sym is)
+    (claims-in_reach tree.image_len (longest_claims (planned_at rules tree.files) 0 tree.image_len) within.in_reach
+    (ends_by-longest (planned_at rules tree.files) 0 tree.image_len tree.image_len (omega arith)))
+
+-- where two tests agree below a number, the least below it is the same
+least_below-same : (a b : ℕ → Bool) (end : ℕ) → ((byte : ℕ) → byte < end → a byte ≡ b byte) → least_below a end ≡ least_below b end
+unfolding least_below
+least_below-same a b zero agree = refl
+least_below-same a b (suc last) agree =
+    let rest : least_below a last ≡ least_below b last = least_below-same a b last (λ byte low. agree byte (omega arith)) in
+    let here : a last ≡ b last = agree last (omega arith) in
+    rw (rest, here) refl
+
+-- the least byte that the bytes of a plan share with the guard
+pub guarded-by_least : (tree : FoundTree) (rules : List Rule) (plan : Plan) (planned : List Range) (answer : Option ℕ) → IsWithin tree
+    → plan ≡ plan_of tree rules → ((byte : ℕ) → covers planned byte ≡ is_some (painted plan.ranges byte))
+    → IsLeast (λ byte. covers planned byte && covers tree.guard byte) answer → answer ≡ guarded_byte tree rules
+unfolding plan_of guarded_byte
+guarded-by_least tree rules plan planned answer within is planned_is least =
+    let past : (byte : ℕ) → tree.image_len ≤ byte → (covers planned byte && covers tree.guard byte) ≡ false =
+    λ byte behind. and_right (covers planned byte) (covers tree.guard byte) (covers-past tree.guard tree.image_len byte within.guard behind) in
+    let longest : List Claim = longest_claims (planned_at rules tree.files) 0 tree.image_len in
+    let set_is : (byte : ℕ) → byte < tree.image_len → covers planned byte ≡ is_planned rules tree.files byte =
+    λ byte inside. planned_is byte ∙ ap (λ (p : Plan). is_some (painted p.ranges byte)) is ∙ sym (covers-claims longest byte)
+    ∙ longest-covers (planned_at rules tree.files) 0 tree.image_len byte (omega arith) (omega arith) in
+    same_as_least_below (λ byte. covers planned byte && covers tree.guard byte) tree.image_len answer least past
+    ∙ least_below-same (λ byte. covers planned byte && covers tree.guard byte) (λ byte. is_planned rules tree.files byte && covers tree.guard byte)
+    tree.image_len (λ byte inside. ap (λ b. b && covers tree.guard byte) (set_is byte inside))

@@ -1,0 +1,141 @@
+//! The commands.
+ghost use Rattle.std.specs.Prelude.{◌≡◌, ◌≢◌, ◌≤◌, ◌↔◌, ◌⊎◌, ◌∷◌, [], ℕ, List, Some, None, IfSome, IfOk, IfErr, OnOk, IsErrOf, IsSome, map, string_bytes};
+ghost use Rattle.disk_defs.specs.Disk.{told_image};
+ghost use Rattle.disk_defs.specs.Stream.{taken_with, TookPrefixOf};
+ghost use Rattle.disk_defs.specs.Count.{Rose};
+ghost use Rattle.plan_defs.specs.Plan.{plan_of, guarded_byte};
+ghost use Rattle.redact_cmd.specs.PlanCommand.{MeetsForms, HasReport, HasNoPlan, HasPlan, IfBothTold, SaysRules, IsCalm};
+ghost use Rattle.redact_cmd.specs.Words.{command_of};
+ghost use Rattle.redact_cmd.specs.Refusals.{IsPlanRefusal, IsSilent};
+
+use crate::plan::{guarded_byte, make_plan};
+use crate::reader::read_tree;
+use crate::report::write_report;
+use crate::rules::read_rule;
+use crate::status::Status;
+use crate::words::{Command, parse_words};
+use rule_defs::Rule;
+use rx_ranges::Plan;
+use rx_store::{Sink, Source, Store};
+use rx_tree::Tree;
+use std::alloc::Global;
+use text_defs::ReportState;
+
+/// The plan of a tree and a rule, where no planned byte lies in the guard. Else it isn't built yet.
+fn unguarded_plan(alloc: Global, tree: &Tree, rule: &Rule) -> Result<Plan, Status>
+    ensures plan { IfOk result (λ plan. plan ≡ plan_of tree.now (rule.now ∷ [])) }
+    ensures unguarded { OnOk result (guarded_byte tree.now (rule.now ∷ []) ≡ None) }
+    ensures guarded { IsErrOf result Status.NotBuilt → IsSome (guarded_byte tree.now (rule.now ∷ [])) }
+    ensures refusals { IfErr result IsPlanRefusal }
+{
+    let Ok(plan) = make_plan(alloc, tree, rule) else {
+        return Err(Status::NoMemory);
+    };
+    match guarded_byte(alloc, tree, &plan) {
+        Ok(None) => Ok(plan),
+        Ok(Some(_)) => Err(Status::NotBuilt),
+        Err(_) => Err(Status::NoMemory),
+    }
+}
+
+/// The command `plan`: reads the rules and the image, and writes the report of their plan.
+fn plan_command<S: Store, R: Source, K: Sink>(
+    alloc: Global,
+    store: &mut S,
+    rules: &mut R,
+    out: &mut K,
+) -> Status
+    ensures wrote { result ≡ Status.Done → IfBothTold (R.rest rules.old) (told_image (S.state store.old)) (λ text image.
+        HasReport text image (λ report. K.taken out.new ≡ taken_with (K.taken out.old) report)) }
+    ensures ended { result ≡ Status.Done → IfSome (R.rest rules.new) (λ rest. rest ≡ []) }
+    ensures unbuilt { result ≡ Status.NotBuilt → IfBothTold (R.rest rules.old) (told_image (S.state store.old)) HasNoPlan }
+    ensures prefix { result ≡ Status.SinkFault → IfBothTold (R.rest rules.old) (told_image (S.state store.old)) (λ text image.
+        HasReport text image (TookPrefixOf (K.taken out.old) (K.taken out.new))) }
+    ensures silent { IsSilent result → K.taken out.new ≡ K.taken out.old }
+    ensures same { S.state store.new ≡ S.state store.old }
+    ensures known { result ≢ Status.Usage }
+    ensures rules_first { result ≡ Status.DeviceFault → IfSome (R.rest rules.old) SaysRules }
+
+    ensures store_calm { result ≢ Status.DeviceFault → S.faults store.new ≡ S.faults store.old }
+    ensures rules_calm { result ≢ Status.SourceFault → R.faults rules.new ≡ R.faults rules.old }
+    ensures out_calm { result ≢ Status.SinkFault → K.faults out.new ≡ K.faults out.old }
+    ensures device { result ≡ Status.DeviceFault → Rose (S.faults store.old) (S.faults store.new) }
+    ensures source { result ≡ Status.SourceFault → Rose (R.faults rules.old) (R.faults rules.new) }
+    ensures sink { result ≡ Status.SinkFault → Rose (K.faults out.old) (K.faults out.new) }
+{
+    let rule = match read_rule(alloc, rules) {
+        Ok(rule) => rule,
+        Err(status) => return status,
+    };
+    let tree = match read_tree(alloc, store) {
+        Ok(tree) => tree,
+        Err(status) => return status,
+    };
+    let plan = match unguarded_plan(alloc, &tree, &rule) {
+        Ok(plan) => plan,
+        Err(status) => return status,
+    };
+    match write_report(out, &plan, ReportState::Planned) {
+        Ok(()) => Status::Done,
+        Err(_) => Status::SinkFault,
+    }
+}
+
+/// Carries out the command of the words, and answers how it ended.
+///
+/// `plan IMAGE RULES` reads the rule text to its end and then the image, and writes the report of their plan. It is
+/// built for rule texts and images of the first form alone, and for plans with no byte in the guard; every other
+/// command and form is `NotBuilt`. Words that fit no command are `Usage`.
+///
+/// `DeviceFault`, `SourceFault` and `SinkFault` come only where the store, the source or the sink failed in this call;
+/// `NoMemory` where memory ran out. After `SinkFault` the sink took some first bytes of the report, and after every
+/// other refusal nothing. The store holds what it held.
+pub fn run<S: Store, R: Source, K: Sink>(
+    alloc: Global,
+    words: &[String],
+    store: &mut S,
+    rules: &mut R,
+    out: &mut K,
+) -> Status
+    ensures usage { (result ≡ Status.Usage) ↔ (command_of (map (λ word. string_bytes word) words.now) ≡ None) }
+    ensures unbuilt_commands { IfSome (command_of (map (λ word. string_bytes word) words.now)) (λ command. command ≢ Command.Plan → result ≡ Status.NotBuilt) }
+
+    // Done: the rule text was read to its end, and the sink took the report of the plan.
+    ensures wrote { result ≡ Status.Done → IfBothTold (R.rest rules.old) (told_image (S.state store.old)) (λ text image.
+        HasReport text image (λ report. K.taken out.new ≡ taken_with (K.taken out.old) report)) }
+    ensures ended { result ≡ Status.Done → IfSome (R.rest rules.new) (λ rest. rest ≡ []) }
+
+    // NotBuilt of `plan`: the rule text or the image has another form, or a planned byte lies in the guard.
+    ensures unbuilt { command_of (map (λ word. string_bytes word) words.now) ≡ Some Command.Plan → result ≡ Status.NotBuilt
+        → IfBothTold (R.rest rules.old) (told_image (S.state store.old)) HasNoPlan }
+    ensures complete { command_of (map (λ word. string_bytes word) words.now) ≡ Some Command.Plan
+        → IfBothTold (R.rest rules.old) (told_image (S.state store.old)) (λ text image. HasPlan text image
+        → IsCalm (S.faults store.old) (S.faults store.new) → IsCalm (R.faults rules.old) (R.faults rules.new)
+        → IsCalm (K.faults out.old) (K.faults out.new) → (result ≡ Status.Done) ⊎ (result ≡ Status.NoMemory)) }
+
+    // What a refusal leaves.
+    ensures prefix { result ≡ Status.SinkFault → IfBothTold (R.rest rules.old) (told_image (S.state store.old)) (λ text image.
+        HasReport text image (TookPrefixOf (K.taken out.old) (K.taken out.new))) }
+    ensures silent { IsSilent result → K.taken out.new ≡ K.taken out.old }
+    ensures same { S.state store.new ≡ S.state store.old }
+
+    // Faults have their cause, and the store is called only after the rules were read.
+    ensures device { result ≡ Status.DeviceFault → Rose (S.faults store.old) (S.faults store.new) }
+    ensures source { result ≡ Status.SourceFault → Rose (R.faults rules.old) (R.faults rules.new) }
+    ensures sink { result ≡ Status.SinkFault → Rose (K.faults out.old) (K.faults out.new) }
+    ensures rules_first { result ≡ Status.DeviceFault → IfSome (R.rest rules.old) SaysRules }
+    ensures store_calm { result ≢ Status.DeviceFault → S.faults store.new ≡ S.faults store.old }
+    ensures rules_calm { result ≢ Status.SourceFault → R.faults rules.new ≡ R.faults rules.old }
+    ensures out_calm { result ≢ Status.SinkFault → K.faults out.new ≡ K.faults out.old }
+
+    // No other command calls the store, the source or the sink.
+    ensures idle_store { command_of (map (λ word. string_bytes word) words.now) ≢ Some Command.Plan → store.new ≡ store.old }
+    ensures idle_rules { command_of (map (λ word. string_bytes word) words.now) ≢ Some Command.Plan → rules.new ≡ rules.old }
+    ensures idle_out { command_of (map (λ word. string_bytes word) words.now) ≢ Some Command.Plan → out.new ≡ out.old }
+{
+    match parse_words(words) {
+        None => Status::Usage,
+        Some(Command::Plan) => plan_command(alloc, store, rules, out),
+        Some(_) => Status::NotBuilt,
+    }
+}

@@ -1,0 +1,7 @@
+//! Tests of the commands over stores, sources and sinks in memory.
+#![tactic(auto)]
+
+#[cfg(test)]
+mod plan;
+#[cfg(test)]
+mod small_image;

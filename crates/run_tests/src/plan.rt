@@ -1,0 +1,247 @@
+//! The command `plan` on the small image and on images that differ from it.
+ghost use Rattle.std.specs.Prelude.{◌≡◌, ◌+◌, ◌≤◌, length, vec_len, IfOk};
+
+use crate::small_image::{ENTRIES, FILE, ROOT, SUPERBLOCK, put, small_image};
+use redact_cmd::{Status, run};
+use rx_store::{MemSink, MemSource, MemStore};
+use std::alloc::{AllocError, Global};
+use std::test::Fail;
+
+const RULE: &[u8] = b"FILENAME \"a\" FILL 0x58";
+
+const REPORT: &[u8] =
+    b"redaction planned\nimage 262144\nranges 1\nbytes 3\nRANGE 86016 3 1 0x58\nFILE 1 /a\n";
+
+/// What is in the way of a run: the calls of the store that fail, the read of the source that fails, and the sink's room.
+#[derive(Clone, Copy)]
+struct Troubles {
+    store: Option<u64>,
+    source: Option<u64>,
+    room: usize,
+}
+
+const NO_TROUBLE: Troubles = Troubles {
+    store: None,
+    source: None,
+    room: 4096,
+};
+
+fn words_of(alloc: Global, words: &[&str]) -> Result<Vec<String>, AllocError> {
+    let mut all = Vec::new(alloc);
+    for word in words {
+        all.push(String::from_str(alloc, word)?)?;
+    }
+    Ok(all)
+}
+
+/// Runs words over an image and a rule text, and gives the status and what was written.
+fn outcome(
+    alloc: Global,
+    words: &[&str],
+    image: Vec<u8>,
+    rules: &[u8],
+    troubles: &Troubles,
+) -> Result<(Status, Vec<u8>), AllocError> {
+    let words = words_of(alloc, words)?;
+    let mut store = MemStore::new(alloc, image, Vec::new(alloc), 0, 0, 0)?;
+    if let Some(call) = troubles.store {
+        store.fail_at(vec![in alloc; call]?);
+    }
+    let mut source = MemSource::new(Vec::from_slice(alloc, rules)?, troubles.source);
+    let mut sink = MemSink::new(alloc, troubles.room)?;
+    let status = run(alloc, &words, &mut store, &mut source, &mut sink);
+    Ok((status, Vec::from_slice(alloc, sink.bytes())?))
+}
+
+/// The status and the text of `plan` without trouble.
+fn planned(alloc: Global, image: Vec<u8>, rules: &[u8]) -> Result<(Status, Vec<u8>), AllocError> {
+    outcome(
+        alloc,
+        &["plan", "IMAGE", "RULES"],
+        image,
+        rules,
+        &NO_TROUBLE,
+    )
+}
+
+#[test]
+fn no_words_are_usage(rt: HostRuntime) -> Result<(), Fail> {
+    let alloc = rt.alloc();
+    let (status, text) = outcome(alloc, &[], small_image(alloc)?, RULE, &NO_TROUBLE)?;
+    assert_eq!(rt; status, Status::Usage);
+    assert_eq!(rt; status.code(), 2);
+    assert!(rt; text.is_empty());
+    Ok(())
+}
+
+#[test]
+fn the_small_image_is_planned(rt: HostRuntime) -> Result<(), Fail> {
+    let alloc = rt.alloc();
+    for rules in [RULE, b"FILENAME \"a\" FILL 0x58\n"] {
+        let (status, text) = planned(alloc, small_image(alloc)?, rules)?;
+        assert_eq!(rt; status, Status::Done);
+        assert_eq!(rt; text.as_slice(), REPORT);
+    }
+    Ok(())
+}
+
+#[test]
+fn a_rule_that_settles_nothing_plans_nothing(rt: HostRuntime) -> Result<(), Fail> {
+    let alloc = rt.alloc();
+    let (status, text) = planned(alloc, small_image(alloc)?, b"FILENAME \"b\" FILL 0xfF\n")?;
+    assert_eq!(rt; status, Status::Done);
+    assert_eq!(rt;
+        text.as_slice(),
+        b"redaction planned\nimage 262144\nranges 0\nbytes 0\n".as_slice()
+    );
+    Ok(())
+}
+
+#[test]
+fn each_call_that_fails_is_answered(rt: HostRuntime) -> Result<(), Fail> {
+    let alloc = rt.alloc();
+    let plan = ["plan", "IMAGE", "RULES"];
+    for call in 1..=10 {
+        let troubles = Troubles {
+            store: Some(call),
+            source: None,
+            room: 4096,
+        };
+        let (status, text) = outcome(alloc, &plan, small_image(alloc)?, RULE, &troubles)?;
+        assert_eq!(rt; status, Status::DeviceFault, "call {call}");
+        assert!(rt; text.is_empty());
+    }
+    for read in 1..=2 {
+        let troubles = Troubles {
+            store: None,
+            source: Some(read),
+            room: 4096,
+        };
+        let (status, text) = outcome(alloc, &plan, small_image(alloc)?, RULE, &troubles)?;
+        assert_eq!(rt; status, Status::SourceFault, "read {read}");
+        assert!(rt; text.is_empty());
+    }
+    let troubles = Troubles {
+        store: None,
+        source: None,
+        room: 10,
+    };
+    let (status, text) = outcome(alloc, &plan, small_image(alloc)?, RULE, &troubles)?;
+    assert_eq!(rt; status, Status::SinkFault);
+    assert_eq!(rt; text.as_slice(), b"redaction ".as_slice());
+    Ok(())
+}
+
+#[test]
+fn other_commands_and_rule_texts_are_not_built(rt: HostRuntime) -> Result<(), Fail> {
+    let alloc = rt.alloc();
+    for words in [
+        ["inventory", "IMAGE"].as_slice(),
+        ["redact", "IMAGE", "JOURNAL", "RULES"].as_slice(),
+        ["selftest", "ufs2", "7", "40"].as_slice(),
+    ] {
+        let (status, text) = outcome(alloc, words, small_image(alloc)?, RULE, &NO_TROUBLE)?;
+        assert_eq!(rt; status, Status::NotBuilt);
+        assert_eq!(rt; status.code(), 15);
+        assert!(rt; text.is_empty());
+    }
+    for rules in [
+        b"".as_slice(),
+        b"FILENAME \"\" FILL 0x58",
+        b"FILENAME \"a\" FILL 0X58",
+        b"FILENAME \"a\" FILL 0x5",
+        b"FILENAME \"a\"  FILL 0x58",
+        b"FILENAME \"a\" FILL 0x58\r\n",
+        b"FILENAME \"a\" FILL 0x58\n\n",
+        b"FILENAME \"a b\" FILL 0x58",
+        b"FILENAME \"a\" KEEP",
+        b"\xEF\xBB\xBFFILENAME \"a\" FILL 0x58",
+    ] {
+        let (status, text) = planned(alloc, small_image(alloc)?, rules)?;
+        assert_eq!(rt; status, Status::NotBuilt);
+        assert!(rt; text.is_empty());
+    }
+    Ok(())
+}
+
+/// The small image with these bytes at a place.
+fn changed(alloc: Global, at: usize, bytes: &[u8]) -> Result<Vec<u8>, AllocError> {
+    let mut image = small_image(alloc)?;
+    if at <= 200000 && bytes.len() <= 1024 {
+        put(&mut image, at, bytes);
+    }
+    Ok(image)
+}
+
+#[test]
+fn images_of_another_form_are_not_built(rt: HostRuntime) -> Result<(), Fail> {
+    let alloc = rt.alloc();
+    for (at, bytes) in [
+        // fields of the superblock: iblkno, ncg, bsize, fsize, frag, nindir, inopb, ipg, fpg and the magic
+        (SUPERBLOCK + 16, b"\xFF\xFF\xFF\xFF".as_slice()),
+        (SUPERBLOCK + 16, b"\xFF\xFF\xFF\x7F"),
+        (SUPERBLOCK + 44, b"\x00\x00\x00\x00"),
+        (SUPERBLOCK + 44, b"\xFF\xFF\xFF\xFF"),
+        (SUPERBLOCK + 48, b"\x00\x00\x00\x80"),
+        (SUPERBLOCK + 52, b"\x00\x02\x00\x00"),
+        (SUPERBLOCK + 56, b"\x08\x00\x00\x00"),
+        (SUPERBLOCK + 116, b"\x00\x00\x00\x00"),
+        (SUPERBLOCK + 120, b"\x00\x00\x00\x00"),
+        (SUPERBLOCK + 184, b"\x00\x00\x00\x00"),
+        (SUPERBLOCK + 184, b"\xF0\xFF\xFF\xFF"),
+        (SUPERBLOCK + 188, b"\x00\x00\x00\x00"),
+        (SUPERBLOCK + 1372, b"\x00"),
+        // other magics that fit before: NTFS alone doesn't, as its second half is missing; HFS+ and UFS1 do
+        (1024, b"H+\x00\x04"),
+        (9564, b"\x54\x19\x01\x00"),
+        // the root: no directory, a snapshot, a size of 0, of no whole blocks, of more than a block, a pointer of 0
+        (ROOT, b"\xED\x81"),
+        (ROOT + 88, b"\x00\x00\x20\x00"),
+        (ROOT + 16, b"\x00\x00"),
+        (ROOT + 16, b"\x01\x02"),
+        (ROOT + 16, b"\x00\x12"),
+        (ROOT + 112, b"\x00"),
+        (ROOT + 112, b"\x40"),
+        // its entries: a length of 4, one past the block, an empty name, a slash in it, an inode past the groups
+        (ENTRIES + 4, b"\x04"),
+        (ENTRIES + 28, b"\xEC\x01"),
+        (ENTRIES + 31, b"\x00"),
+        (ENTRIES + 32, b"/"),
+        (ENTRIES + 24, b"\x10"),
+        (ENTRIES + 24, b"\x02"),
+        (ENTRIES + 24, b"\x01"),
+        // the file: a folder, a snapshot, an extended area, a size of more than a block, a pointer that is negative, that
+        // leads past the end, that is 0, and that leads to the root's entries or to the superblock
+        (FILE, b"\xA4\x41"),
+        (FILE + 88, b"\x00\x00\x20\x00"),
+        (FILE + 92, b"\x01"),
+        (FILE + 16, b"\x01\x10"),
+        (FILE + 16, b"\xFF\xFF\xFF\xFF\xFF\xFF\xFF\xFF"),
+        (FILE + 112, b"\xFF\xFF\xFF\xFF\xFF\xFF\xFF\xFF"),
+        (FILE + 112, b"\xFF\xFF\xFF\xFF\xFF\xFF\xFF\x7F"),
+        (FILE + 112, b"\x40"),
+        (FILE + 112, b"\x00"),
+        (FILE + 112, b"\x14"),
+        (FILE + 112, b"\x10"),
+    ] {
+        let (status, text) = planned(alloc, changed(alloc, at, bytes)?, RULE)?;
+        assert_eq!(rt; status, Status::NotBuilt, "at {at}");
+        assert!(rt; text.is_empty());
+    }
+    Ok(())
+}
+
+#[test]
+fn short_images_are_not_built(rt: HostRuntime) -> Result<(), Fail> {
+    let alloc = rt.alloc();
+    for len in [
+        0, 1, 10, 1000, 66911, 66912, 74495, 74751, 81920, 86016, 90111,
+    ] {
+        let mut image = small_image(alloc)?;
+        image.truncate(len);
+        let (status, text) = planned(alloc, image, RULE)?;
+        assert_eq!(rt; status, Status::NotBuilt, "{len} bytes");
+        assert!(rt; text.is_empty());
+    }
+    Ok(())
+}

@@ -1,0 +1,95 @@
+-- The definition of the first form looks only inside the image, and the canonical list of what it looks at is the
+-- guard.
+use Rattle.std.specs.Prelude.{◌≡◌, ℕ, ◌≤◌, true, List, [], ◌∷◌, length}
+use Rattle.std.specs.List.{All}
+use Rattle.std.proofs.Common.{arith, sym, subst}
+use Rattle.std.proofs.lemmas.List.Elements.{All-cons, All-nil}
+use Rattle.range_defs.specs.declared.Range.{Range}
+use Rattle.range_defs.specs.Places.{covers, IsRangeList}
+use Rattle.range_defs.specs.RangeLaws.{EndsBy}
+use Rattle.image_defs.specs.Bytes.{part}
+use Rattle.image_defs.specs.Ask.{Done, visits, each, check, given, ◌>>=◌}
+use Rattle.image_defs.specs.Guard.{looked_at, list-looked_at}
+use Rattle.image_defs.specs.Looks.{LooksAt, looks_bind, looks_check, looks_look, looks_given, looks_each}
+use Rattle.ufs_defs.specs.Superblock.{superblock_of}
+use Rattle.ufs_defs.specs.Inode.{inode_place, inode_of}
+use Rattle.ufs_defs.specs.Directory.{Entry, entries_of}
+use Rattle.ufs_defs.specs.Blocks.{first_block}
+use Rattle.ufs_defs.specs.declared.superblock.Superblock.{Superblock}
+use Rattle.ufs_defs.specs.declared.inode.Inode.{Inode}
+use Rattle.volume_defs.specs.Kind.{kind_of}
+use Rattle.volume_defs.specs.FirstForm.{FirstFault, NotFirstForm, is_first_length, is_first_kind, is_first_superblock, is_first_inode, is_first_root, is_first_entry, is_first_file, is_small_file, is_one, first_superblock, first_inode, first_root, first_entries, first_file, listed, files_below, first_files}
+use Rattle.volume_defs.specs.FirstReader.{probe_places, visits_kind}
+use Rattle.volume_defs.specs.FirstTree.{guard_of}
+use Rattle.volume_defs.specs.FirstKept.{first_inode_within, root_content_within}
+use Rattle.volume_defs.specs.FirstInvariants.{root_gives, first_length_in_reach}
+
+-- an inode is looked at only where it lies in the image
+inode_looks : (image : List ℕ) (size : ℕ) (superblock : Superblock) (number : ℕ) → LooksAt (EndsBy size) image (first_inode size superblock number)
+unfolding first_inode
+inode_looks image size superblock number =
+    looks_check (EndsBy size) image (is_first_inode size superblock number) NotFirstForm _
+    (λ good. looks_look {E = FirstFault} (EndsBy size) image (inode_place superblock number) 256 (λ bytes. Done (inode_of bytes)) (first_inode_within size superblock number good) (All-nil (EndsBy size)))
+
+root_looks : (image : List ℕ) (size : ℕ) (superblock : Superblock) → LooksAt (EndsBy size) image (first_root size superblock)
+unfolding first_root
+root_looks image size superblock =
+    looks_bind (EndsBy size) image (first_inode size superblock 2) _ (inode_looks image size superblock 2)
+    (λ root is. looks_check (EndsBy size) image (is_first_root size superblock root) NotFirstForm (λ x. Done root) (λ good. All-nil (EndsBy size)))
+
+entries_look : (image : List ℕ) (size : ℕ) (superblock : Superblock) (root : Inode) → is_first_root size superblock root ≡ true → LooksAt (EndsBy size) image (first_entries superblock root)
+unfolding first_entries
+entries_look image size superblock root good =
+    looks_look {E = FirstFault} (EndsBy size) image (first_block superblock root) root.size (λ content. given (listed (entries_of content))) (root_content_within size superblock root good)
+    (looks_given (EndsBy size) image (listed (entries_of (part image (first_block superblock root) root.size))))
+
+file_looks : (image : List ℕ) (size : ℕ) (superblock : Superblock) (entry : Entry) → LooksAt (EndsBy size) image (first_file size superblock entry)
+unfolding first_file
+file_looks image size superblock entry =
+    looks_check (EndsBy size) image (is_first_entry entry) NotFirstForm _
+    (λ named. looks_bind (EndsBy size) image (first_inode size superblock entry.inode) _ (inode_looks image size superblock entry.inode)
+    (λ inode is. looks_check (EndsBy size) image (is_first_file superblock inode) NotFirstForm _
+    (λ fits. looks_check (EndsBy size) image (is_small_file size superblock inode) NotFirstForm (λ x. Done (record { entry = entry; inode = inode })) (λ small. All-nil (EndsBy size)))))
+
+below_looks : (image : List ℕ) (size : ℕ) (superblock : Superblock) → LooksAt (EndsBy size) image (files_below size superblock)
+unfolding files_below
+below_looks image size superblock =
+    looks_bind (EndsBy size) image (first_root size superblock) _ (root_looks image size superblock)
+    (λ root is. looks_bind (EndsBy size) image (first_entries superblock root) _ (entries_look image size superblock root (root_gives image size superblock root is))
+    (λ entries listing. looks_check (EndsBy size) image (is_one entries) NotFirstForm _
+    (λ one. looks_bind (EndsBy size) image (each (first_file size superblock) entries) _ (looks_each (EndsBy size) image (first_file size superblock) entries (λ entry. file_looks image size superblock entry))
+    (λ named are. All-nil (EndsBy size)))))
+
+probes_look : (size : ℕ) → 66912 ≤ size → All (EndsBy size) probe_places
+probes_look size long =
+    All-cons (EndsBy size) (record { at = 3; len = 8 }) (record { at = 510; len = 2 } ∷ record { at = 1024; len = 4 } ∷ record { at = 9564; len = 4 } ∷ record { at = 66908; len = 4 } ∷ []) (omega (arith, long))
+    (All-cons (EndsBy size) (record { at = 510; len = 2 }) (record { at = 1024; len = 4 } ∷ record { at = 9564; len = 4 } ∷ record { at = 66908; len = 4 } ∷ []) (omega (arith, long))
+    (All-cons (EndsBy size) (record { at = 1024; len = 4 }) (record { at = 9564; len = 4 } ∷ record { at = 66908; len = 4 } ∷ []) (omega (arith, long))
+    (All-cons (EndsBy size) (record { at = 9564; len = 4 }) (record { at = 66908; len = 4 } ∷ []) (omega (arith, long))
+    (All-cons (EndsBy size) (record { at = 66908; len = 4 }) [] (omega (arith, long)) (All-nil (EndsBy size))))))
+
+kind_looks : (image : List ℕ) (size : ℕ) → 66912 ≤ size → LooksAt (EndsBy size) image (kind_of {E = FirstFault})
+kind_looks image size long =
+    let P : List Range → Type 0 = λ ranges. All (EndsBy size) ranges in
+    subst P (sym (visits_kind FirstFault image)) (probes_look size long)
+
+superblock_looks : (image : List ℕ) (size : ℕ) → 66912 ≤ size → LooksAt (EndsBy size) image first_superblock
+unfolding first_superblock
+superblock_looks image size long =
+    looks_look {E = FirstFault} (EndsBy size) image 65536 1376 (λ bytes. check (is_first_superblock (superblock_of bytes)) NotFirstForm >>= (λ x. Done (superblock_of bytes))) (omega (arith, long))
+    (looks_check (EndsBy size) image (is_first_superblock (superblock_of (part image 65536 1376))) NotFirstForm (λ x. Done (superblock_of (part image 65536 1376))) (λ good. All-nil (EndsBy size)))
+
+-- the definition looks only inside the image
+pub first_files_look_inside : (image : List ℕ) (size : ℕ) → LooksAt (EndsBy size) image (first_files size)
+unfolding first_files
+first_files_look_inside image size =
+    looks_check (EndsBy size) image (is_first_length size) NotFirstForm _
+    (λ long. looks_bind (EndsBy size) image kind_of _ (kind_looks image size (first_length_in_reach size long).0)
+    (λ kind is. looks_check (EndsBy size) image (is_first_kind kind) NotFirstForm _
+    (λ ufs. looks_bind (EndsBy size) image first_superblock _ (superblock_looks image size (first_length_in_reach size long).0)
+    (λ superblock read. below_looks image size superblock))))
+
+-- the canonical list of the ranges at which a reader looked is the guard
+pub list_is_guard : (image : List ℕ) (ranges : List Range) → IsRangeList ranges → ((byte : ℕ) → covers ranges byte ≡ covers (visits image (first_files (length image))) byte) → ranges ≡ guard_of image
+unfolding guard_of looked_at
+list_is_guard image ranges kept same = list-looked_at image (first_files (length image)) ranges kept same (first_files_look_inside image (length image))
