@@ -11,11 +11,10 @@ ghost use Rattle.redact_cmd.specs.Stages.{Gives, GivesTree, IsImageRefusal, IsOw
 
 mod content;
 mod directory;
+mod form;
 mod found;
-mod inode;
 mod kind;
 mod read;
-mod superblock;
 mod tree;
 
 use crate::status::Status;

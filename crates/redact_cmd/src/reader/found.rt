@@ -10,11 +10,8 @@ ghost use Rattle.volume_defs.specs.FirstForm.{is_first_superblock, is_first_inod
 ghost use Rattle.redact_cmd.specs.Stages.{Gives, IsImageRefusal, IsReadFailure};
 
 use super::directory::{Entry, NamedInode, may_be_named};
-use super::inode::{
-    block_at, has_one_block, inode_at, inode_from, inode_within, may_be_file, may_be_root,
-};
+use super::form::{block_at, has_one_block, inode_at, inode_within, is_sound, may_be_file, may_be_root};
 use super::read::{read_bytes, read_part};
-use super::superblock::{is_first, superblock_from};
 use crate::status::Status;
 use rx_store::Store;
 use std::alloc::Global;
@@ -33,8 +30,8 @@ pub(super) fn read_superblock<S: Store>(store: &mut S) -> Result<Superblock, Sta
     ensures calm { result ≢ Err Status.DeviceFault → S.faults store.new ≡ S.faults store.old }
 {
     let bytes: [u8; 1376] = read_bytes(store, 65_536)?;
-    let superblock = superblock_from(&bytes);
-    if is_first(&superblock) {
+    let superblock = Superblock::from_bytes(&bytes);
+    if is_sound(&superblock) {
         Ok(superblock)
     } else {
         Err(Status::NotBuilt)
@@ -62,7 +59,7 @@ fn read_inode<S: Store>(
         return Err(Status::NotBuilt);
     }
     let bytes: [u8; 256] = read_bytes(store, inode_at(size, superblock, number))?;
-    Ok(inode_from(&bytes))
+    Ok(Inode::from_bytes(&bytes))
 }
 
 /// The root's inode.

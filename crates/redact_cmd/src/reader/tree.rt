@@ -9,7 +9,7 @@ ghost use Rattle.volume_defs.specs.FirstRanges.{first_ranges};
 
 use super::content::content_of;
 use super::directory::NamedInode;
-use super::inode::{block_at, inode_at};
+use super::form::{block_at, inode_at};
 use range_defs::Range;
 use rx_ranges::{NoMemory, RangeList, Text};
 use rx_tree::{FileEntry, FileId, Files, FsKind, Kind, Names, Part, Parts, Tree, Volume, Volumes};
