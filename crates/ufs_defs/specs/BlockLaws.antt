@@ -6,6 +6,7 @@ use Rattle.std.proofs.lemmas.Bool.{cases_lt}
 use Rattle.std.proofs.lemmas.Bool.Decides.{nat_tests}
 use Rattle.std.proofs.lemmas.Grind.{div_ceil_times}
 use Rattle.std.proofs.lemmas.List.Elements.{All-cons, All-nil}
+use Rattle.range_defs.specs.declared.Range.{Range}
 use Rattle.range_defs.specs.Places.{IsRangeList, covers}
 use Rattle.range_defs.specs.RangeLaws.{same_range_list}
 use Rattle.rx_ranges.specs.declared.pieces.PieceKind.TheVariants.{Disk}
