@@ -9,7 +9,7 @@ use Rattle.ufs_defs.specs.Directory.{Entry, entries_of}
 use Rattle.ufs_defs.specs.Blocks.{first_block}
 use Rattle.ufs_defs.specs.declared.superblock.Superblock.{Superblock}
 use Rattle.ufs_defs.specs.declared.inode.Inode.{Inode}
-use Rattle.volume_defs.specs.FirstForm.{NotFirstForm, NamedInode, is_first_length, is_first_inode, is_first_entry, first_superblock, first_root, first_entries, first_file, listed, files_of}
+use Rattle.volume_defs.specs.FirstForm.{NotFirstForm, NamedInode, is_first_length, is_first_inode, is_first_entry, first_superblock, first_root, first_file, listed, files_of}
 use Rattle.volume_defs.specs.FirstTree.{first_tree, tree_of}
 use Rattle.volume_defs.specs.FirstRanges.{IsVolume, first_ranges, the_one, the_one_is, found_tree, no_length_tree, no_kind_tree, no_superblock_tree, kind_holds, no_root_tree, no_entry_tree, no_file_tree}
 use Rattle.redact_cmd.specs.Stages.{Gives, Refuses, first_kind_of}
@@ -44,7 +44,7 @@ pub superblock_wrong : (told later : Option (List ℕ)) (size : ℕ) (result : R
 superblock_wrong None later size result status err passed long is kind refuses = tt
 superblock_wrong (Some image) later size result status err passed long is kind refuses =
     λ same. gives_refusal result status (run image first_superblock) (first_tree image) err passed (no_superblock_tree image size same long (kind_holds _ kind))
-        (told_then (λ image. Refuses status (run image first_superblock)) image later is refuses)
+    (told_then (λ image. Refuses status (run image first_superblock)) image later is refuses)
 
 pub volume_gives : (told later last : Option (List ℕ)) (size : ℕ) (superblock : Superblock) (result : Result FoundTree Status) → is_first_length size ≡ true
     → later ≡ told → last ≡ told → IfSome told (λ image. first_kind_of image ≡ Ok tt) → IfSome later (λ image. run image first_superblock ≡ Ok superblock)
@@ -52,7 +52,7 @@ pub volume_gives : (told later last : Option (List ℕ)) (size : ℕ) (superbloc
 volume_gives None later last size superblock result long is too kind of_superblock gives = tt
 volume_gives (Some image) later last size superblock result long is too kind of_superblock gives =
     λ same. told_then (OfVolume size superblock (λ image. Gives result (first_tree image))) image last too gives same
-        (record { long = long; kind = kind_holds _ kind; read_superblock = told_then (λ image. run image first_superblock ≡ Ok superblock) image later is of_superblock })
+    (record { long = long; kind = kind_holds _ kind; read_superblock = told_then (λ image. run image first_superblock ≡ Ok superblock) image later is of_superblock })
 
 pub root_wrong : (told : Option (List ℕ)) (size : ℕ) (superblock : Superblock) (result : Result FoundTree Status) (status : Status) → IsErr result → IsErrAnd result (λ other. other ≡ status)
     → IfSome told (λ image. Refuses status (run image (first_root size superblock))) → IfSome told (OfVolume size superblock (λ image. Gives result (first_tree image)))
@@ -67,9 +67,9 @@ pub entry_wrong : (told later : Option (List ℕ)) (size : ℕ) (superblock : Su
 entry_wrong None later size superblock root content slice result status err passed is of_slice of_root of_content refuses = tt
 entry_wrong (Some image) later size superblock root content slice result status err passed is of_slice of_root of_content refuses =
     λ same volume. gives_refusal result status (the_one (listed (entries_of slice))) (first_tree image) err passed
-        (λ none. no_entry_tree image size superblock root same volume of_root
-            (ap the_one (entries_read image content slice superblock root of_slice (told_then (ReadsContent superblock root content) image later is of_content)) ∙ none))
-        refuses
+    (λ none. no_entry_tree image size superblock root same volume of_root
+    (ap the_one (entries_read image content slice superblock root of_slice (told_then (ReadsContent superblock root content) image later is of_content)) ∙ none))
+    refuses
 
 pub file_wrong : (told later last : Option (List ℕ)) (size : ℕ) (superblock : Superblock) (root : Inode) (content slice : List ℕ) (entry : Entry) (result : Result FoundTree Status) (status : Status)
     → IsErr result → IsErrAnd result (λ other. other ≡ status) → later ≡ told → last ≡ told → slice ≡ content
@@ -79,10 +79,10 @@ pub file_wrong : (told later last : Option (List ℕ)) (size : ℕ) (superblock 
 file_wrong None later last size superblock root content slice entry result status err passed is too of_slice of_root of_content one refuses = tt
 file_wrong (Some image) later last size superblock root content slice entry result status err passed is too of_slice of_root of_content one refuses =
     λ same volume. gives_refusal result status (run image (first_file size superblock entry)) (first_tree image) err passed
-        (no_file_tree image size superblock root entry same volume of_root
-            (entries_read image content slice superblock root of_slice (told_then (ReadsContent superblock root content) image later is of_content)
-                ∙ the_one_is (listed (entries_of slice)) entry one))
-        (told_then (λ image. Refuses status (run image (first_file size superblock entry))) image last too refuses)
+    (no_file_tree image size superblock root entry same volume of_root
+    (entries_read image content slice superblock root of_slice (told_then (ReadsContent superblock root content) image later is of_content)
+    ∙ the_one_is (listed (entries_of slice)) entry one))
+    (told_then (λ image. Refuses status (run image (first_file size superblock entry))) image last too refuses)
 
 pub tree_found : (told later last : Option (List ℕ)) (size : ℕ) (superblock : Superblock) (root : Inode) (content slice : List ℕ) (entry : Entry) (named : NamedInode) (tree : FoundTree)
     → later ≡ told → last ≡ told → slice ≡ content
@@ -94,9 +94,9 @@ pub tree_found : (told later last : Option (List ℕ)) (size : ℕ) (superblock 
 tree_found None later last size superblock root content slice entry named tree is too of_slice of_root of_content one of_file has_entry has_root has_name has_inode made = tt
 tree_found (Some image) later last size superblock root content slice entry named tree is too of_slice of_root of_content one of_file has_entry has_root has_name has_inode made =
     λ same volume.
-        found_tree image size superblock root named same
-            (found_from image size superblock root entry named volume of_root
-                (entries_read image content slice superblock root of_slice (told_then (ReadsContent superblock root content) image later is of_content)
-                    ∙ the_one_is (listed (entries_of slice)) entry one)
-                has_entry (told_then (λ image. run image (first_file size superblock entry) ≡ Ok named) image last too of_file) has_root has_name has_inode)
-        ∙ ap Ok (sym made)
+    found_tree image size superblock root named same
+    (found_from image size superblock root entry named volume of_root
+    (entries_read image content slice superblock root of_slice (told_then (ReadsContent superblock root content) image later is of_content)
+    ∙ the_one_is (listed (entries_of slice)) entry one)
+    has_entry (told_then (λ image. run image (first_file size superblock entry) ≡ Ok named) image last too of_file) has_root has_name has_inode)
+    ∙ ap Ok (sym made)

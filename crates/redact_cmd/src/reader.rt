@@ -11,24 +11,21 @@ ghost use Rattle.redact_cmd.specs.Stages.{Gives, GivesTree, IsImageRefusal, IsOw
 
 mod content;
 mod directory;
+mod form;
 mod found;
-mod inode;
 mod kind;
 mod read;
-mod superblock;
 mod tree;
-
-use std::alloc::Global;
-
-use rx_store::{Area, Store};
-use rx_tree::Tree;
-use ufs_defs::superblock::Superblock;
 
 use crate::status::Status;
 use directory::{Entry, leading_entries};
 use found::{read_content, read_file, read_root, read_superblock};
 use kind::read_kind;
+use rx_store::{Area, Store};
+use rx_tree::Tree;
+use std::alloc::Global;
 use tree::tree_from;
+use ufs_defs::superblock::Superblock;
 
 /// The tree of the image, where that has the first form.
 pub(crate) fn read_tree<S: Store>(alloc: Global, store: &mut S) -> Result<Tree, Status>

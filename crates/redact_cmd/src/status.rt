@@ -5,10 +5,9 @@ ghost use Rattle.disk_defs.specs.Stream.{taken_with, TookPrefixOf};
 ghost use Rattle.redact_cmd.specs.Status.{code_of, status_line};
 ghost use Rattle.redact_cmd.specs.declared.status.Status.TheVariants.{NoMemory};
 
-use std::alloc::{AllocError, AllocFailed};
-
 use arrayvec::ArrayString;
 use rx_store::{Fault, Sink, write_all};
+use std::alloc::{AllocError, AllocFailed};
 
 /// What a command answers.
 #[derive(Clone, Copy, Debug, PartialEq, Eq)]

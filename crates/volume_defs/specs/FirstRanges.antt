@@ -1,19 +1,17 @@
 -- The ranges of an image of the first form at which one looks for its files, and its tree where they are known.
 use Rattle.std.specs.Prelude.{◌≡◌, ℕ, Bool, true, false, Result, Ok, Err, List, [], ◌∷◌, ◌++◌, length, refl}
-use Rattle.std.proofs.Common.{ap, sym, ◌∙◌, subst}
+use Rattle.std.proofs.Common.{ap, ◌∙◌}
 use Rattle.range_defs.specs.declared.Range.{Range}
 use Rattle.range_defs.specs.Places.{covers, longest_ranges}
 use Rattle.image_defs.specs.Ask.{run, visits}
 use Rattle.image_defs.specs.Runs.{with_value, checked}
-use Rattle.rx_tree.specs.FoundTree.{FoundTree}
-use Rattle.rx_tree.specs.declared.file.FileEntry.{FileEntry}
 use Rattle.ufs_defs.specs.Inode.{inode_place}
 use Rattle.ufs_defs.specs.Directory.{Entry}
 use Rattle.ufs_defs.specs.Blocks.{first_block}
 use Rattle.ufs_defs.specs.declared.superblock.Superblock.{Superblock}
 use Rattle.ufs_defs.specs.declared.inode.Inode.{Inode}
 use Rattle.volume_defs.specs.Kind.{fitting_kind}
-use Rattle.volume_defs.specs.FirstForm.{FirstFault, NotFirstForm, NamedInode, is_first_length, is_first_kind, is_first_inode, is_first_entry, first_superblock, first_inode, first_root, first_entries, first_file, files_below, files_of, first_files}
+use Rattle.volume_defs.specs.FirstForm.{FirstFault, NotFirstForm, NamedInode, is_first_length, is_first_kind, is_first_inode, is_first_entry, first_superblock, first_root, first_entries, first_file, files_below, files_of, first_files}
 use Rattle.volume_defs.specs.FirstReader.{probes_of, probe_places, run_first_files, run_first_files_length, run_first_files_kind, run_first_files_no_superblock, run_files_below, run_files_below_no_root, run_files_below_no_entries, run_files_below_not_one, run_files_below_no_file, visits_first_files, visits_files_below, visits_first_root, visits_first_inode, visits_first_entries, visits_first_file}
 use Rattle.volume_defs.specs.FirstTree.{guard_of, tree_of, first_tree}
 

@@ -1,19 +1,17 @@
 //! The content of a file of at most one block.
 ghost use Rattle.std.specs.Prelude.{◌≡◌, ◌+◌, ◌<◌, ◌≤◌, true, IfOk};
-ghost use Rattle.ufs_defs.specs.Signed.{counted};
+ghost use Rattle.ufs_defs.specs.Signed.{counted as counted_by};
 ghost use Rattle.ufs_defs.specs.Blocks.{first_block, one_block_pieces, one_block_slack, one_block_content, rounded_up};
 ghost use Rattle.volume_defs.specs.FirstForm.{is_first_superblock, is_small_file};
 
-use std::alloc::Global;
-
+use super::form::block_at;
 use range_defs::Range;
 use rx_ranges::{NoMemory, Piece, PieceKind, Pieces, RangeList, Text};
 use rx_tree::{Part, Role};
+use std::alloc::Global;
 use ufs_defs::inode::Inode;
+use ufs_defs::signed::counted;
 use ufs_defs::superblock::Superblock;
-
-use super::inode::block_at;
-use super::superblock::count_of;
 
 /// The pieces of a content that begins at a place: none for no byte.
 fn pieces_of(alloc: Global, size: u64, at: u64) -> Result<Pieces, NoMemory>
@@ -64,30 +62,30 @@ fn start_of(size: u64, superblock: &Superblock, inode: &Inode) -> u64
     requires { is_small_file size superblock.now inode.now ≡ true }
     ensures empty { inode.now.size ≡ 0 → result ≡ 0 }
     ensures place { 0 < inode.now.size → result ≡ first_block superblock.now inode.now }
-    ensures inside { 0 < inode.now.size → result + counted superblock.now.bsize ≤ size }
+    ensures inside { 0 < inode.now.size → result + counted_by superblock.now.bsize ≤ size }
 {
-    if inode.size == 0 { 0 } else { block_at(size, superblock, inode) }
+    if inode.size == 0 {
+        0
+    } else {
+        block_at(size, superblock, inode)
+    }
 }
 
 /// The bytes of a fragment.
 fn fragment_of(superblock: &Superblock) -> u64
-    ensures { result ≡ counted superblock.now.fsize }
+    ensures { result ≡ counted_by superblock.now.fsize }
 {
-    u64::from(count_of(superblock.fsize))
+    u64::from(counted(superblock.fsize))
 }
 
 /// The content of a file of at most one block.
-#[tactic(
-    auto,
-    using(
-        crate::proofs::Reading::small_fits_block,
-        crate::proofs::Reading::block_is_fragment,
-        crate::proofs::Reading::greatest_block,
-        crate::proofs::Reading::least_block,
-        ufs_defs::specs::BlockLaws::one_block_pieces_cover
-    )
-)]
-pub(super) fn content_of(alloc: Global, size: u64, superblock: &Superblock, inode: &Inode) -> Result<Part, NoMemory>
+#[tactic(auto, using(crate::proofs::Reading::small_fits_block, volume_defs::specs::FirstKept::first_superblock_fragment, crate::proofs::Reading::greatest_block, crate::proofs::Reading::least_block, ufs_defs::specs::BlockLaws::one_block_pieces_cover))]
+pub(super) fn content_of(
+    alloc: Global,
+    size: u64,
+    superblock: &Superblock,
+    inode: &Inode,
+) -> Result<Part, NoMemory>
     requires reach { size ≤ 70368744177664 }
     requires first { is_first_superblock superblock.now ≡ true }
     requires small { is_small_file size superblock.now inode.now ≡ true }

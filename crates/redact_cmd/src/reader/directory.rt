@@ -1,17 +1,16 @@
 //! The entries of a directory of an image of the first form.
-ghost use Rattle.std.specs.Prelude.{◌≡◌, ◌+◌, ◌-◌, ◌%◌, ◌<◌, ◌≤◌, ◌==◌, ◌&&◌, not, nat_le, IsTrue, IfErr, length};
-ghost use Rattle.ufs_defs.specs.Directory.{is_used, is_record_length, is_name_length, name_length, is_entry, entry_of, entries_of, leads_on};
+ghost use Rattle.std.specs.Prelude.{◌≡◌, ◌+◌, ◌%◌, ◌≤◌, ◌==◌, ◌&&◌, not, nat_le, IfErr, length};
+ghost use Rattle.ufs_defs.specs.Directory.{entry_of, entries_of, leads_on};
 ghost use Rattle.volume_defs.specs.FirstForm.{is_first_entry, is_first_name, listed};
 ghost use Rattle.image_defs.specs.Bytes.{part};
 ghost use Rattle.redact_cmd.specs.Stages.{GivesItems, IsOwnRefusal};
 
+use crate::status::Status;
+use image_defs::little;
 use std::alloc::Global;
 use std::marker::Model;
-
-use image_defs::little;
+use ufs_defs::directory::is_entry;
 use ufs_defs::inode::Inode;
-
-use crate::status::Status;
 
 /// An entry: its place in the content, the inode that it names, its length, and its name.
 #[derive(Drop)]
@@ -45,26 +44,6 @@ impl<'a> Model for NamedInode<'a> {
     ghost view = { λ n. record { entry = n.entry; inode = n.inode } };
 }
 
-/// Whether an entry names an inode.
-fn names_inode(inode: u32) -> bool
-    ensures { result ≡ is_used inode }
-{
-    1 < inode
-}
-
-fn may_be_record_length(left: usize, len: usize) -> bool
-    ensures { result ≡ is_record_length left len }
-{
-    8 <= len && len % 4 == 0 && len <= left
-}
-
-fn may_be_name_length(len: usize, name_len: usize) -> bool
-    requires { name_len < 256 }
-    ensures { result ≡ is_name_length len name_len }
-{
-    0 < name_len && 8 + name_len <= len
-}
-
 /// The bytes from a place on, as many as that or as there are.
 #[tactic(auto, unfolding(image_defs::specs::Bytes::part))]
 fn part_of(bytes: &[u8], at: usize, len: usize) -> &[u8]
@@ -75,43 +54,17 @@ fn part_of(bytes: &[u8], at: usize, len: usize) -> &[u8]
     &rest[..len.min(rest.len())]
 }
 
-/// The length of the name of the entry at a place.
-#[tactic(auto, using(crate::proofs::Reading::one_byte_at))]
-fn name_len_at(content: &[u8], at: usize) -> usize
-    requires { at + 8 ≤ length content.now }
-    ensures value { result ≡ name_length content.now at }
-    ensures small { result < 256 }
-{
-    usize::from(content[at + 7])
-}
-
-/// Whether the record at a place is an entry.
-fn stands_at(content: &[u8], at: usize) -> bool
-    requires whole { length content.now % 512 ≡ 0 }
-    requires inside { at < length content.now }
-    ensures entry { result ≡ is_entry content.now at }
-    ensures within { IsTrue result → at + 8 ≤ length content.now }
-{
-    let left = 512 - at % 512;
-    if left < 8 {
-        return false;
-    }
-    let len = usize::from(little::u16_at(content, at + 4));
-    let named = names_inode(little::u32_at(content, at));
-    may_be_record_length(left, len)
-        && (!named || may_be_name_length(len, name_len_at(content, at)))
-}
-
 /// The entry at a place.
 fn entry_at(content: &[u8], at: usize) -> Entry<'_>
     requires { at + 8 ≤ length content.now }
     ensures { result ≡ entry_of content.now at }
 {
+    let name_len = usize::from(little::u8_at(content, at + 7));
     Entry {
         at,
         inode: little::u32_at(content, at),
         len: little::u16_at(content, at + 4),
-        name: part_of(content, at + 8, name_len_at(content, at)),
+        name: part_of(content, at + 8, name_len),
     }
 }
 
@@ -119,11 +72,15 @@ fn entry_at(content: &[u8], at: usize) -> Entry<'_>
 fn leads_to_file(entry: &Entry<'_>) -> bool
     ensures { result ≡ leads_on entry.now }
 {
-    names_inode(entry.inode) && entry.name != b".".as_slice() && entry.name != b"..".as_slice()
+    1 < entry.inode && entry.name != b".".as_slice() && entry.name != b"..".as_slice()
 }
 
 /// The entries of a directory's content that lead to files.
-pub(super) fn leading_entries<'a>(alloc: Global, content: &'a [u8]) -> Result<Vec<Entry<'a>>, Status>
+#[tactic(auto, using(crate::proofs::Reading::entry_head))]
+pub(super) fn leading_entries<'a>(
+    alloc: Global,
+    content: &'a [u8],
+) -> Result<Vec<Entry<'a>>, Status>
     requires { length content.now % 512 ≡ 0 }
     ensures entries { GivesItems result (listed (entries_of content.now)) }
     ensures refusals { IfErr result IsOwnRefusal }
@@ -131,7 +88,7 @@ pub(super) fn leading_entries<'a>(alloc: Global, content: &'a [u8]) -> Result<Ve
     let mut found = Vec::new(alloc);
     let mut at = 0;
     while at < content.len() {
-        if !stands_at(content, at) {
+        if !is_entry(content, at) {
             return Err(Status::NotBuilt);
         }
         let entry = entry_at(content, at);

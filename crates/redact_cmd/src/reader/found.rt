@@ -9,17 +9,14 @@ ghost use Rattle.ufs_defs.specs.Blocks.{first_block};
 ghost use Rattle.volume_defs.specs.FirstForm.{is_first_superblock, is_first_inode, is_first_root, is_first_entry, is_first_file, is_small_file, first_superblock, first_inode, first_root, first_file};
 ghost use Rattle.redact_cmd.specs.Stages.{Gives, IsImageRefusal, IsReadFailure};
 
-use std::alloc::Global;
-
+use super::directory::{Entry, NamedInode, may_be_named};
+use super::form::{block_at, has_one_block, inode_at, inode_within, is_sound, may_be_file, may_be_root};
+use super::read::{read_bytes, read_part};
+use crate::status::Status;
 use rx_store::Store;
+use std::alloc::Global;
 use ufs_defs::inode::Inode;
 use ufs_defs::superblock::Superblock;
-
-use super::directory::{Entry, NamedInode, may_be_named};
-use super::inode::{block_at, has_one_block, inode_at, inode_within, inode_from, may_be_file, may_be_root};
-use super::read::{read_bytes, read_part};
-use super::superblock::{is_first, superblock_from};
-use crate::status::Status;
 
 /// The superblock of the image.
 pub(super) fn read_superblock<S: Store>(store: &mut S) -> Result<Superblock, Status>
@@ -33,12 +30,21 @@ pub(super) fn read_superblock<S: Store>(store: &mut S) -> Result<Superblock, Sta
     ensures calm { result ≢ Err Status.DeviceFault → S.faults store.new ≡ S.faults store.old }
 {
     let bytes: [u8; 1376] = read_bytes(store, 65_536)?;
-    let superblock = superblock_from(&bytes);
-    if is_first(&superblock) { Ok(superblock) } else { Err(Status::NotBuilt) }
+    let superblock = Superblock::from_bytes(&bytes);
+    if is_sound(&superblock) {
+        Ok(superblock)
+    } else {
+        Err(Status::NotBuilt)
+    }
 }
 
 /// The inode of a number.
-fn read_inode<S: Store>(store: &mut S, size: u64, superblock: &Superblock, number: u32) -> Result<Inode, Status>
+fn read_inode<S: Store>(
+    store: &mut S,
+    size: u64,
+    superblock: &Superblock,
+    number: u32,
+) -> Result<Inode, Status>
     requires size { size ≡ size_of Image (S.state store.old) }
     requires first { is_first_superblock superblock.now ≡ true }
     ensures told { IfSome (told_image (S.state store.old)) (λ image. Gives result (run image (first_inode size superblock.now number))) }
@@ -53,11 +59,15 @@ fn read_inode<S: Store>(store: &mut S, size: u64, superblock: &Superblock, numbe
         return Err(Status::NotBuilt);
     }
     let bytes: [u8; 256] = read_bytes(store, inode_at(size, superblock, number))?;
-    Ok(inode_from(&bytes))
+    Ok(Inode::from_bytes(&bytes))
 }
 
 /// The root's inode.
-pub(super) fn read_root<S: Store>(store: &mut S, size: u64, superblock: &Superblock) -> Result<Inode, Status>
+pub(super) fn read_root<S: Store>(
+    store: &mut S,
+    size: u64,
+    superblock: &Superblock,
+) -> Result<Inode, Status>
     requires size { size ≡ size_of Image (S.state store.old) }
     requires first { is_first_superblock superblock.now ≡ true }
     ensures told { IfSome (told_image (S.state store.old)) (λ image. Gives result (run image (first_root size superblock.now))) }
@@ -70,12 +80,22 @@ pub(super) fn read_root<S: Store>(store: &mut S, size: u64, superblock: &Superbl
     ensures calm { result ≢ Err Status.DeviceFault → S.faults store.new ≡ S.faults store.old }
 {
     let root = read_inode(store, size, superblock, 2)?;
-    if may_be_root(size, superblock, &root) { Ok(root) } else { Err(Status::NotBuilt) }
+    if may_be_root(size, superblock, &root) {
+        Ok(root)
+    } else {
+        Err(Status::NotBuilt)
+    }
 }
 
 /// The content of the root.
 #[tactic(auto, using(crate::proofs::Reading::root_has_first_block, crate::proofs::Reading::root_fits_block))]
-pub(super) fn read_content<S: Store>(alloc: Global, store: &mut S, size: u64, superblock: &Superblock, root: &Inode) -> Result<Vec<u8>, Status>
+pub(super) fn read_content<S: Store>(
+    alloc: Global,
+    store: &mut S,
+    size: u64,
+    superblock: &Superblock,
+    root: &Inode,
+) -> Result<Vec<u8>, Status>
     requires size { size ≡ size_of Image (S.state store.old) }
     requires root { is_first_root size superblock.now root.now ≡ true }
     ensures told { IfOk result (λ content. IfSome (told_image (S.state store.old)) (λ image. content.items ≡ part image (first_block superblock.now root.now) root.now.size)) }
@@ -92,7 +112,12 @@ pub(super) fn read_content<S: Store>(alloc: Global, store: &mut S, size: u64, su
 }
 
 /// The file to which an entry leads.
-pub(super) fn read_file<'a, S: Store>(store: &mut S, size: u64, superblock: &Superblock, leading: Entry<'a>) -> Result<NamedInode<'a>, Status>
+pub(super) fn read_file<'a, S: Store>(
+    store: &mut S,
+    size: u64,
+    superblock: &Superblock,
+    leading: Entry<'a>,
+) -> Result<NamedInode<'a>, Status>
     requires size { size ≡ size_of Image (S.state store.old) }
     requires first { is_first_superblock superblock.now ≡ true }
     ensures told { IfSome (told_image (S.state store.old)) (λ image. Gives result (run image (first_file size superblock.now leading.entry))) }
@@ -117,5 +142,8 @@ pub(super) fn read_file<'a, S: Store>(store: &mut S, size: u64, superblock: &Sup
     if !has_one_block(size, superblock, &inode) {
         return Err(Status::NotBuilt);
     }
-    Ok(NamedInode { entry: leading, inode })
+    Ok(NamedInode {
+        entry: leading,
+        inode,
+    })
 }

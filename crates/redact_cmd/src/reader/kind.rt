@@ -6,11 +6,10 @@ ghost use Rattle.disk_defs.specs.declared.Area.TheVariants.{Image};
 ghost use Rattle.volume_defs.specs.Kind.{fitting_kind};
 ghost use Rattle.redact_cmd.specs.Stages.{Gives, IsImageRefusal, first_kind_of};
 
-use rx_store::Store;
-use rx_tree::FsKind;
-
 use super::read::read_bytes;
 use crate::status::Status;
+use rx_store::Store;
+use rx_tree::FsKind;
 
 /// The first kind whose magic stands at its places.
 fn kind_from(
@@ -21,11 +20,11 @@ fn kind_from(
     ufs2: &[u8],
 ) -> Option<FsKind>
     ensures { result ≡ fitting_kind (record {
-        ntfs_name = ntfs_name.now;
-        ntfs_mark = ntfs_mark.now;
-        hfs = hfs.now;
-        ufs1 = ufs1.now;
-        ufs2 = ufs2.now;
+      ntfs_name = ntfs_name.now;
+      ntfs_mark = ntfs_mark.now;
+      hfs = hfs.now;
+      ufs1 = ufs1.now;
+      ufs2 = ufs2.now;
     }) }
 {
     if ntfs_name == b"NTFS    ".as_slice() && ntfs_mark == b"\x55\xAA".as_slice() {

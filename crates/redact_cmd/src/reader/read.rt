@@ -6,9 +6,8 @@ ghost use Rattle.disk_defs.specs.declared.Area.TheVariants.{Image};
 ghost use Rattle.image_defs.specs.Bytes.{part};
 ghost use Rattle.redact_cmd.specs.declared.status.Status.TheVariants.{DeviceFault};
 
-use rx_store::{Area, Store};
-
 use crate::status::Status;
+use rx_store::{Area, Store};
 
 /// Reads the bytes of the image from a place on into the whole buffer.
 pub(super) fn read_part<S: Store>(store: &mut S, at: u64, buf: &mut [u8]) -> Result<(), Status>
@@ -27,7 +26,10 @@ pub(super) fn read_part<S: Store>(store: &mut S, at: u64, buf: &mut [u8]) -> Res
 }
 
 /// The bytes of the image from a place on, a fixed number of them.
-pub(super) fn read_bytes<const N: usize, S: Store>(store: &mut S, at: u64) -> Result<[u8; N], Status>
+pub(super) fn read_bytes<const N: usize, S: Store>(
+    store: &mut S,
+    at: u64,
+) -> Result<[u8; N], Status>
     requires { at + N ≤ size_of Image (S.state store.old) }
     ensures bytes { IfOk result (λ bytes. IfSome (told_image (S.state store.old)) (λ image. bytes ≡ part image at N)) }
     ensures len { IfOk result (λ bytes. length bytes ≡ N) }

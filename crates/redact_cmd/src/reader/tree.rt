@@ -7,17 +7,15 @@ ghost use Rattle.volume_defs.specs.FirstForm.{is_first_superblock, is_first_inod
 ghost use Rattle.volume_defs.specs.FirstTree.{whole_volume, tree_of};
 ghost use Rattle.volume_defs.specs.FirstRanges.{first_ranges};
 
-use std::alloc::Global;
-
+use super::content::content_of;
+use super::directory::NamedInode;
+use super::form::{block_at, inode_at};
 use range_defs::Range;
 use rx_ranges::{NoMemory, RangeList, Text};
 use rx_tree::{FileEntry, FileId, Files, FsKind, Kind, Names, Part, Parts, Tree, Volume, Volumes};
+use std::alloc::Global;
 use ufs_defs::inode::Inode;
 use ufs_defs::superblock::Superblock;
-
-use super::content::content_of;
-use super::directory::NamedInode;
-use super::inode::{block_at, inode_at};
 
 /// The path of a name in the root.
 #[tactic(auto, using(crate::proofs::Tree::first_name_is_utf8))]
@@ -40,10 +38,10 @@ fn file_with(
     content: Part,
 ) -> Result<FileEntry, NoMemory>
     ensures { IfOk result (λ file. file ≡ record {
-        id = record { volume = 0; number = number };
-        kind = kind;
-        names = name ∷ [];
-        parts = content ∷ [];
+      id = record { volume = 0; number = number };
+      kind = kind;
+      names = name ∷ [];
+      parts = content ∷ [];
     }) }
 {
     Ok(FileEntry {
@@ -56,7 +54,12 @@ fn file_with(
 
 /// The root as a file.
 #[tactic(auto, using(crate::proofs::Reading::root_is_small))]
-fn root_entry(alloc: Global, size: u64, superblock: &Superblock, root: &Inode) -> Result<FileEntry, NoMemory>
+fn root_entry(
+    alloc: Global,
+    size: u64,
+    superblock: &Superblock,
+    root: &Inode,
+) -> Result<FileEntry, NoMemory>
     requires reach { size ≤ 70368744177664 }
     requires first { is_first_superblock superblock.now ≡ true }
     requires root { is_first_root size superblock.now root.now ≡ true }
@@ -67,7 +70,12 @@ fn root_entry(alloc: Global, size: u64, superblock: &Superblock, root: &Inode) -
 }
 
 /// The file to which an entry of the root leads.
-fn named_entry(alloc: Global, size: u64, superblock: &Superblock, named: &NamedInode<'_>) -> Result<FileEntry, NoMemory>
+fn named_entry(
+    alloc: Global,
+    size: u64,
+    superblock: &Superblock,
+    named: &NamedInode<'_>,
+) -> Result<FileEntry, NoMemory>
     requires reach { size ≤ 70368744177664 }
     requires first { is_first_superblock superblock.now ≡ true }
     requires name { is_first_name named.now.entry.name ≡ true }
@@ -76,19 +84,24 @@ fn named_entry(alloc: Global, size: u64, superblock: &Superblock, named: &NamedI
 {
     let content = content_of(alloc, size, superblock, &named.inode)?;
     let name = path_of(alloc, named.entry.name)?;
-    file_with(alloc, u64::from(named.entry.inode), Kind::File, name, content)
+    file_with(
+        alloc,
+        u64::from(named.entry.inode),
+        Kind::File,
+        name,
+        content,
+    )
 }
 
 /// The bytes on which the tree rests.
-#[tactic(
-    auto,
-    using(
-        crate::proofs::Reading::root_has_first_block,
-        crate::proofs::Reading::root_fits_block,
-        crate::proofs::Tree::guard_is
-    )
-)]
-fn guard_from(alloc: Global, size: u64, superblock: &Superblock, root: &Inode, named: &NamedInode<'_>) -> Result<RangeList, NoMemory>
+#[tactic(auto, using(crate::proofs::Reading::root_has_first_block, crate::proofs::Reading::root_fits_block, crate::proofs::Tree::guard_is))]
+fn guard_from(
+    alloc: Global,
+    size: u64,
+    superblock: &Superblock,
+    root: &Inode,
+    named: &NamedInode<'_>,
+) -> Result<RangeList, NoMemory>
     requires long { 66912 ≤ size }
     requires reach { size ≤ 70368744177664 }
     requires first { is_first_superblock superblock.now ≡ true }
@@ -105,7 +118,13 @@ fn guard_from(alloc: Global, size: u64, superblock: &Superblock, root: &Inode, n
 
 /// The ranges of the image at which one looks for its files.
 #[tactic(auto, using(crate::proofs::Reading::root_has_first_block, crate::proofs::Reading::root_fits_block))]
-fn looked_at(alloc: Global, size: u64, superblock: &Superblock, root: &Inode, named: &NamedInode<'_>) -> Result<Vec<Range>, NoMemory>
+fn looked_at(
+    alloc: Global,
+    size: u64,
+    superblock: &Superblock,
+    root: &Inode,
+    named: &NamedInode<'_>,
+) -> Result<Vec<Range>, NoMemory>
     requires long { 66912 ≤ size }
     requires first { is_first_superblock superblock.now ≡ true }
     requires has_root { is_first_inode size superblock.now 2 ≡ true }
@@ -134,10 +153,7 @@ const FIXED_RANGES: [Range; 6] = [
     Range { at: 510, len: 2 },
     Range { at: 1024, len: 4 },
     Range { at: 9564, len: 4 },
-    Range {
-        at: 66_908,
-        len: 4,
-    },
+    Range { at: 66_908, len: 4 },
     Range {
         at: 65_536,
         len: 1376,
@@ -154,7 +170,13 @@ fn no_ranges(alloc: Global) -> Result<RangeList, NoMemory>
 
 /// The root, and the file to which its entry leads.
 #[tactic(auto, using(crate::proofs::Tree::entry_has_name))]
-fn files_from(alloc: Global, size: u64, superblock: &Superblock, root: &Inode, named: &NamedInode<'_>) -> Result<Files, NoMemory>
+fn files_from(
+    alloc: Global,
+    size: u64,
+    superblock: &Superblock,
+    root: &Inode,
+    named: &NamedInode<'_>,
+) -> Result<Files, NoMemory>
     requires reach { size ≤ 70368744177664 }
     requires first { is_first_superblock superblock.now ≡ true }
     requires root { is_first_root size superblock.now root.now ≡ true }
@@ -181,7 +203,13 @@ fn volumes_of(alloc: Global, size: u64) -> Result<Volumes, NoMemory>
 }
 
 /// The tree of an image in which this was found.
-pub(super) fn tree_from(alloc: Global, size: u64, superblock: &Superblock, root: &Inode, named: &NamedInode<'_>) -> Result<Tree, NoMemory>
+pub(super) fn tree_from(
+    alloc: Global,
+    size: u64,
+    superblock: &Superblock,
+    root: &Inode,
+    named: &NamedInode<'_>,
+) -> Result<Tree, NoMemory>
     requires long { 66912 ≤ size }
     requires reach { size ≤ 70368744177664 }
     requires first { is_first_superblock superblock.now ≡ true }

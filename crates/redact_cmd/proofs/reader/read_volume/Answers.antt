@@ -17,20 +17,20 @@ only_entry-requires g c =
 pub returns-in_err-entry-clause-told : goal.returns-in_err-entry-clause-told
 returns-in_err-entry-clause-told g c =
     entry_wrong (told_image (g.S.Store.state c.args.store.now)) (told_image (g.S.Store.state c.read_root.new.store)) c.args.size c.args.superblock.now c.in_ok-root.root c.in_ok-content.content.items c.as_slice.result.now
-        c.from_residual-in_err-entry.result c.in_err-entry.field-0.0 c.from_residual-in_err-entry.ensures.0 c.from_residual-in_err-entry.ensures.1 (ap told_image c.in_ok-root.ensures.same) c.as_slice.ensures.value
-        c.in_ok-root.ensures.told c.in_ok-content.ensures.told c.in_err-entry.ensures.entry
+    c.from_residual-in_err-entry.result c.in_err-entry.field-0.0 c.from_residual-in_err-entry.ensures.0 c.from_residual-in_err-entry.ensures.1 (ap told_image c.in_ok-root.ensures.same) c.as_slice.ensures.value
+    c.in_ok-root.ensures.told c.in_ok-content.ensures.told c.in_err-entry.ensures.entry
 
 pub returns-in_err-named-clause-told : goal.returns-in_err-named-clause-told
 returns-in_err-named-clause-told g c =
     file_wrong (told_image (g.S.Store.state c.args.store.now)) (told_image (g.S.Store.state c.read_root.new.store)) (told_image (g.S.Store.state c.read_content.new.store)) c.args.size c.args.superblock.now c.in_ok-root.root c.in_ok-content.content.items c.as_slice.result.now c.in_ok-entry.entry
-        c.from_residual-in_err-named.result c.in_err-named.field-0.0 c.from_residual-in_err-named.ensures.0 c.from_residual-in_err-named.ensures.1 (ap told_image c.in_ok-root.ensures.same)
-        (ap told_image (c.in_ok-content.ensures.same ∙ c.in_ok-root.ensures.same)) c.as_slice.ensures.value
-        c.in_ok-root.ensures.told c.in_ok-content.ensures.told c.in_ok-entry.ensures.entry c.in_err-named.ensures.told
+    c.from_residual-in_err-named.result c.in_err-named.field-0.0 c.from_residual-in_err-named.ensures.0 c.from_residual-in_err-named.ensures.1 (ap told_image c.in_ok-root.ensures.same)
+    (ap told_image (c.in_ok-content.ensures.same ∙ c.in_ok-root.ensures.same)) c.as_slice.ensures.value
+    c.in_ok-root.ensures.told c.in_ok-content.ensures.told c.in_ok-entry.ensures.entry c.in_err-named.ensures.told
 
 pub returns-clause-told : goal.returns-clause-told
 returns-clause-told g c =
     tree_found (told_image (g.S.Store.state c.args.store.now)) (told_image (g.S.Store.state c.read_root.new.store)) (told_image (g.S.Store.state c.read_content.new.store)) c.args.size c.args.superblock.now c.in_ok-root.root c.in_ok-content.content.items c.as_slice.result.now c.in_ok-entry.entry
-        c.in_ok-named.named c.in_ok-tree_from.field-0 (ap told_image c.in_ok-root.ensures.same)
-        (ap told_image (c.in_ok-content.ensures.same ∙ c.in_ok-root.ensures.same)) c.as_slice.ensures.value
-        c.in_ok-root.ensures.told c.in_ok-content.ensures.told c.in_ok-entry.ensures.entry c.in_ok-named.ensures.told c.in_ok-named.ensures.entry c.in_ok-root.ensures.within c.in_ok-named.ensures.named c.in_ok-named.ensures.within
-        c.in_ok-tree_from.ensures
+    c.in_ok-named.named c.in_ok-tree_from.field-0 (ap told_image c.in_ok-root.ensures.same)
+    (ap told_image (c.in_ok-content.ensures.same ∙ c.in_ok-root.ensures.same)) c.as_slice.ensures.value
+    c.in_ok-root.ensures.told c.in_ok-content.ensures.told c.in_ok-entry.ensures.entry c.in_ok-named.ensures.told c.in_ok-named.ensures.entry c.in_ok-root.ensures.within c.in_ok-named.ensures.named c.in_ok-named.ensures.within
+    c.in_ok-tree_from.ensures

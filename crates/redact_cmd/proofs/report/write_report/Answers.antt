@@ -14,7 +14,7 @@ returns-in_err-write_ranges-clause-prefix g c =
     let own = flat_map range_line c.items.result.now in
     let more = flat_map listed_line plan.listing in
     on_err _ (took_prefix-within _ _ _ c.as_bytes.result.now own more _ c.in_ok-write_all.ensures.taken c.in_err-write_ranges.ensures.prefix
-        (sym (append_assoc c.as_bytes.result.now own more) ∙ ap (λ text. (text ++ own) ++ more) head_is ∙ ap (λ text. (head ++ text) ++ more) ranges_are))
+    (sym (append_assoc c.as_bytes.result.now own more) ∙ ap (λ text. (text ++ own) ++ more) head_is ∙ ap (λ text. (head ++ text) ++ more) ranges_are))
 
 pub returns-clause-prefix : goal.returns-clause-prefix
 returns-clause-prefix g c =
@@ -26,7 +26,7 @@ returns-clause-prefix g c =
     let ranges = flat_map range_line c.items.result.now in
     let own = flat_map listed_line c.items-2.result.now in
     let both = c.in_ok-write_ranges.ensures.taken ∙ ap (λ taken. taken_with taken ranges) c.in_ok-write_all.ensures.taken
-        ∙ taken_with-append (g.K.Sink.taken c.args.sink.now) c.as_bytes.result.now ranges in
+    ∙ taken_with-append (g.K.Sink.taken c.args.sink.now) c.as_bytes.result.now ranges in
     took_prefix-last c.write_listing.result (g.K.Sink.taken c.args.sink.now) (g.K.Sink.taken c.write_ranges.new.sink) (g.K.Sink.taken c.write_listing.new.sink)
-        (c.as_bytes.result.now ++ ranges) own _ both c.write_listing.ensures.prefix
-        (ap (λ text. (text ++ ranges) ++ own) head_is ∙ ap (λ text. (head ++ text) ++ own) ranges_are ∙ ap (λ text. (head ++ flat_map range_line plan.ranges) ++ text) lines_are)
+    (c.as_bytes.result.now ++ ranges) own _ both c.write_listing.ensures.prefix
+    (ap (λ text. (text ++ ranges) ++ own) head_is ∙ ap (λ text. (head ++ text) ++ own) ranges_are ∙ ap (λ text. (head ++ flat_map range_line plan.ranges) ++ text) lines_are)

@@ -10,5 +10,5 @@ returns-then-not-inode_within-clause-told g c =
 pub returns-clause-told : goal.returns-clause-told
 returns-clause-told g c =
     told_map _ c.in_ok-bytes.ensures.bytes
-        (λ image bytes. inode_read image c.in_ok-bytes.bytes c.args.size c.args.superblock.now c.args.number c.inode_at.result c.inode_from.result
-            (sym c.inode_within.ensures ∙ c.if-not-inode_within.false) c.inode_at.ensures.place bytes c.inode_from.ensures)
+    (λ image bytes. inode_read image c.in_ok-bytes.bytes c.args.size c.args.superblock.now c.args.number c.inode_at.result c.from_bytes.result
+    (sym c.inode_within.ensures ∙ c.if-not-inode_within.false) c.inode_at.ensures.place bytes c.from_bytes.ensures)

@@ -2,12 +2,12 @@ use Rattle.std.proofs.Common.{sym, ◌∙◌}
 use Rattle.redact_cmd.proofs.Told.{told_map, superblock_read, superblock_refused}
 use Rattle.redact_cmd.proofs.reader.found.read_superblock.Goals as goal
 
-pub returns-then-is_first-clause-told : goal.returns-then-is_first-clause-told
-returns-then-is_first-clause-told g c =
+pub returns-then-is_sound-clause-told : goal.returns-then-is_sound-clause-told
+returns-then-is_sound-clause-told g c =
     told_map _ c.in_ok-bytes.ensures.bytes
-        (λ image bytes. superblock_read image c.in_ok-bytes.bytes c.superblock_from-superblock.result bytes c.superblock_from-superblock.ensures (sym c.is_first.ensures ∙ c.if-is_first.true))
+    (λ image bytes. superblock_read image c.in_ok-bytes.bytes c.from_bytes-superblock.result bytes c.from_bytes-superblock.ensures (sym c.is_sound.ensures ∙ c.if-is_sound.true))
 
-pub returns-else-is_first-clause-told : goal.returns-else-is_first-clause-told
-returns-else-is_first-clause-told g c =
+pub returns-else-is_sound-clause-told : goal.returns-else-is_sound-clause-told
+returns-else-is_sound-clause-told g c =
     told_map _ c.in_ok-bytes.ensures.bytes
-        (λ image bytes. superblock_refused image c.in_ok-bytes.bytes c.superblock_from-superblock.result bytes c.superblock_from-superblock.ensures (sym c.is_first.ensures ∙ c.if-is_first.false))
+    (λ image bytes. superblock_refused image c.in_ok-bytes.bytes c.from_bytes-superblock.result bytes c.from_bytes-superblock.ensures (sym c.is_sound.ensures ∙ c.if-is_sound.false))

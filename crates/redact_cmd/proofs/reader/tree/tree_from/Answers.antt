@@ -9,7 +9,7 @@ pub invariant_of-result : goal.invariant_of-result
 invariant_of-result c =
     let all = files_of c.args.superblock.now c.args.root.now (c.args.named.now ∷ []) in
     subst IsWithin (tree_is c.args.size c.in_ok-volumes_of.field-0 c.in_ok-no_ranges.field-0 c.in_ok-guard_from.field-0 c.in_ok-files_from.field-0 all c.in_ok-volumes_of.ensures c.in_ok-no_ranges.ensures c.in_ok-files_from.ensures)
-        (tree_within c.args.size c.args.superblock.now c.args.root.now c.args.named.now c.in_ok-guard_from.field-0 c.requires.reach c.requires.first c.requires.root c.requires.small c.in_ok-guard_from.ensures.within)
+    (tree_within c.args.size c.args.superblock.now c.args.root.now c.args.named.now c.in_ok-guard_from.field-0 c.requires.reach c.requires.first c.requires.root c.requires.small c.in_ok-guard_from.ensures.within)
 
 pub returns : goal.returns
 returns c =
