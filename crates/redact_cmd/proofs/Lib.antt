@@ -5,3 +5,4 @@ pub mod Reading
 pub mod Told
 pub mod Exits
 pub mod Tree
+pub mod Guarded

@@ -15,7 +15,7 @@ use Rattle.ufs_defs.specs.Blocks.{first_block}
 use Rattle.volume_defs.specs.FirstReader.{run_first_superblock, run_first_superblock_fault, run_first_inode, run_first_entries}
 use Rattle.redact_cmd.specs.Stages.{Gives, Refuses}
 use Rattle.redact_cmd.specs.declared.status.Status.{Status}
-use Rattle.redact_cmd.specs.declared.status.Status.TheVariants.{Done, Usage, DeviceFault, SourceFault, SinkFault, NoMemory, NotBuilt}
+use Rattle.redact_cmd.specs.declared.status.Status.TheVariants.{Done, Usage, PlanRefused, DeviceFault, SourceFault, SinkFault, NoMemory, NotBuilt}
 
 -- what holds of each image holds of the one that is told
 pub told_all : {B : List ℕ → Type 0} (told : Option (List ℕ)) → ((image : List ℕ) → B image) → IfSome told B
@@ -31,6 +31,7 @@ told_map (Some image) first follows = follows image first
 pub refuses_map : {X Y : Type 0} (status : Status) (found : Result X FirstFault) (whole : Result Y FirstFault) → (found ≡ Err NotFirstForm → whole ≡ Err NotFirstForm) → Refuses status found → Refuses status whole
 refuses_map Done found whole follows refuses = tt
 refuses_map Usage found whole follows refuses = tt
+refuses_map (PlanRefused refusal) found whole follows refuses = tt
 refuses_map DeviceFault found whole follows refuses = tt
 refuses_map SourceFault found whole follows refuses = tt
 refuses_map SinkFault found whole follows refuses = tt

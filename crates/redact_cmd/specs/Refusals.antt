@@ -1,11 +1,12 @@
 -- Which refusals each step of a command may give.
 use Rattle.redact_cmd.specs.declared.status.Status.{Status}
-use Rattle.redact_cmd.specs.declared.status.Status.TheVariants.{Done, Usage, DeviceFault, SourceFault, SinkFault, NoMemory, NotBuilt}
+use Rattle.redact_cmd.specs.declared.status.Status.TheVariants.{Done, Usage, PlanRefused, DeviceFault, SourceFault, SinkFault, NoMemory, NotBuilt}
 
 -- what may come where the rule text is read
 abbrev pub IsTextRefusal : Status → Type 0
 IsTextRefusal Done = ⊥
 IsTextRefusal Usage = ⊥
+IsTextRefusal (PlanRefused refusal) = ⊥
 IsTextRefusal DeviceFault = ⊥
 IsTextRefusal SourceFault = Unit {0}
 IsTextRefusal SinkFault = ⊥
@@ -16,16 +17,18 @@ IsTextRefusal NotBuilt = Unit {0}
 abbrev pub IsPlanRefusal : Status → Type 0
 IsPlanRefusal Done = ⊥
 IsPlanRefusal Usage = ⊥
+IsPlanRefusal (PlanRefused refusal) = Unit {0}
 IsPlanRefusal DeviceFault = ⊥
 IsPlanRefusal SourceFault = ⊥
 IsPlanRefusal SinkFault = ⊥
 IsPlanRefusal NoMemory = Unit {0}
-IsPlanRefusal NotBuilt = Unit {0}
+IsPlanRefusal NotBuilt = ⊥
 
 -- after these nothing was written
 abbrev pub IsSilent : Status → Type 0
 IsSilent Done = ⊥
 IsSilent Usage = Unit {0}
+IsSilent (PlanRefused refusal) = Unit {0}
 IsSilent DeviceFault = Unit {0}
 IsSilent SourceFault = Unit {0}
 IsSilent SinkFault = ⊥

@@ -6,12 +6,13 @@ use Rattle.volume_defs.specs.Kind.{fitting_kind}
 use Rattle.volume_defs.specs.FirstForm.{FirstFault, NotFirstForm, is_first_kind}
 use Rattle.volume_defs.specs.FirstReader.{probes_of}
 use Rattle.redact_cmd.specs.declared.status.Status.{Status}
-use Rattle.redact_cmd.specs.declared.status.Status.TheVariants.{Done, Usage, DeviceFault, SourceFault, SinkFault, NoMemory, NotBuilt}
+use Rattle.redact_cmd.specs.declared.status.Status.TheVariants.{Done, Usage, PlanRefused, DeviceFault, SourceFault, SinkFault, NoMemory, NotBuilt}
 
 -- the only statuses with which the reading of an image is refused
 abbrev pub IsImageRefusal : Status → Type 0
 IsImageRefusal Done = ⊥
 IsImageRefusal Usage = ⊥
+IsImageRefusal (PlanRefused refusal) = ⊥
 IsImageRefusal DeviceFault = Unit {0}
 IsImageRefusal SourceFault = ⊥
 IsImageRefusal SinkFault = ⊥
@@ -22,6 +23,7 @@ IsImageRefusal NotBuilt = Unit {0}
 abbrev pub Refuses : {X : Type 0} → Status → Result X FirstFault → Type 0
 Refuses Done found = Unit {0}
 Refuses Usage found = Unit {0}
+Refuses (PlanRefused refusal) found = Unit {0}
 Refuses DeviceFault found = Unit {0}
 Refuses SourceFault found = Unit {0}
 Refuses SinkFault found = Unit {0}

@@ -1,12 +1,15 @@
 -- The code and the line of a status.
-use Rattle.std.specs.Prelude.{ℕ, List, [], ◌++◌, codes}
+use Rattle.std.specs.Prelude.{ℕ, List, [], ◌++◌, codes, decimal}
 use Rattle.redact_cmd.specs.declared.status.Status.{Status}
-use Rattle.redact_cmd.specs.declared.status.Status.TheVariants.{Done, Usage, DeviceFault, SourceFault, SinkFault, NoMemory, NotBuilt}
+use Rattle.redact_cmd.specs.declared.status.Status.TheVariants.{Done, Usage, PlanRefused, DeviceFault, SourceFault, SinkFault, NoMemory, NotBuilt}
+use Rattle.redact_cmd.specs.declared.status.PlanRefusal.{PlanRefusal}
+use Rattle.redact_cmd.specs.declared.status.PlanRefusal.TheVariants.{MeetsGuard}
 
 -- the code with which the program ends
 abbrev pub code_of : Status → ℕ
 code_of Done = 0
 code_of Usage = 2
+code_of (PlanRefused refusal) = 7
 code_of DeviceFault = 10
 code_of SourceFault = 11
 code_of SinkFault = 12
@@ -17,12 +20,28 @@ code_of NotBuilt = 15
 unfoldable pub program_line : List ℕ → List ℕ
 program_line text = codes "dfredact: " ++ text ++ codes "\n"
 
+-- the text that says a refusal of a plan
+unfoldable pub refusal_text : PlanRefusal → List ℕ
+refusal_text (MeetsGuard place rule) = codes "rule " ++ decimal rule ++ codes " would fill byte " ++ decimal place ++ codes " of the guard"
+
+-- the text that says a status with no operand
+unfoldable pub plain_text : Status → List ℕ
+plain_text Done = []
+plain_text Usage = codes "usage: inventory IMAGE, plan IMAGE RULES, redact IMAGE JOURNAL RULES, resume IMAGE JOURNAL, report JOURNAL, selftest KIND NUMBER FILES"
+plain_text (PlanRefused refusal) = []
+plain_text DeviceFault = codes "image or journal failed"
+plain_text SourceFault = codes "rule text failed"
+plain_text SinkFault = codes "output failed"
+plain_text NoMemory = codes "out of memory"
+plain_text NotBuilt = codes "not built yet"
+
 -- the line that says a status. Done says nothing
 unfoldable pub status_line : Status → List ℕ
 status_line Done = []
-status_line Usage = program_line (codes "usage: inventory IMAGE, plan IMAGE RULES, redact IMAGE JOURNAL RULES, resume IMAGE JOURNAL, report JOURNAL, selftest KIND NUMBER FILES")
-status_line DeviceFault = program_line (codes "image or journal failed")
-status_line SourceFault = program_line (codes "rule text failed")
-status_line SinkFault = program_line (codes "output failed")
-status_line NoMemory = program_line (codes "out of memory")
-status_line NotBuilt = program_line (codes "not built yet")
+status_line Usage = program_line (plain_text Usage)
+status_line (PlanRefused refusal) = program_line (refusal_text refusal)
+status_line DeviceFault = program_line (plain_text DeviceFault)
+status_line SourceFault = program_line (plain_text SourceFault)
+status_line SinkFault = program_line (plain_text SinkFault)
+status_line NoMemory = program_line (plain_text NoMemory)
+status_line NotBuilt = program_line (plain_text NotBuilt)

@@ -4,7 +4,7 @@ ghost use Rattle.disk_defs.specs.Disk.{told_image};
 ghost use Rattle.disk_defs.specs.Stream.{taken_with, TookPrefixOf};
 ghost use Rattle.disk_defs.specs.Count.{Rose};
 ghost use Rattle.plan_defs.specs.Plan.{plan_of, guarded_byte};
-ghost use Rattle.redact_cmd.specs.PlanCommand.{MeetsForms, HasReport, HasNoPlan, HasPlan, IfBothTold, SaysRules, IsCalm};
+ghost use Rattle.redact_cmd.specs.PlanCommand.{HasReport, HasNoForm, HasPlan, FillsGuard, planning_rule, IfBothTold, SaysRules, IsCalm};
 ghost use Rattle.redact_cmd.specs.Words.{command_of};
 ghost use Rattle.redact_cmd.specs.Refusals.{IsPlanRefusal, IsSilent};
 
@@ -12,7 +12,7 @@ use crate::plan::{guarded_byte, make_plan};
 use crate::reader::read_tree;
 use crate::report::write_report;
 use crate::rules::read_rule;
-use crate::status::Status;
+use crate::status::{PlanRefusal, Status};
 use crate::words::{Command, parse_words};
 use rule_defs::Rule;
 use rx_ranges::Plan;
@@ -21,11 +21,13 @@ use rx_tree::Tree;
 use std::alloc::Global;
 use text_defs::ReportState;
 
-/// The plan of a tree and a rule, where no planned byte lies in the guard. Else it isn't built yet.
+/// The plan of a tree and a rule, where no planned byte lies in the guard.
+
 fn unguarded_plan(alloc: Global, tree: &Tree, rule: &Rule) -> Result<Plan, Status>
     ensures plan { IfOk result (λ plan. plan ≡ plan_of tree.now (rule.now ∷ [])) }
     ensures unguarded { OnOk result (guarded_byte tree.now (rule.now ∷ []) ≡ None) }
-    ensures guarded { IsErrOf result Status.NotBuilt → IsSome (guarded_byte tree.now (rule.now ∷ [])) }
+    ensures guarded { (byte number : ℕ) → IsErrOf result (Status.PlanRefused (PlanRefusal.MeetsGuard byte number))
+        → (guarded_byte tree.now (rule.now ∷ []) ≡ Some byte) × (planning_rule (rule.now ∷ []) tree.now byte ≡ Some number) }
     ensures refusals { IfErr result IsPlanRefusal }
 {
     let Ok(plan) = make_plan(alloc, tree, rule) else {
@@ -33,7 +35,7 @@ fn unguarded_plan(alloc: Global, tree: &Tree, rule: &Rule) -> Result<Plan, Statu
     };
     match guarded_byte(alloc, tree, &plan) {
         Ok(None) => Ok(plan),
-        Ok(Some(_)) => Err(Status::NotBuilt),
+        Ok(Some(byte)) => Err(Status::PlanRefused(PlanRefusal::MeetsGuard(byte, rule.number))),
         Err(_) => Err(Status::NoMemory),
     }
 }
@@ -48,7 +50,9 @@ fn plan_command<S: Store, R: Source, K: Sink>(
     ensures wrote { result ≡ Status.Done → IfBothTold (R.rest rules.old) (told_image (S.state store.old)) (λ text image.
         HasReport text image (λ report. K.taken out.new ≡ taken_with (K.taken out.old) report)) }
     ensures ended { result ≡ Status.Done → IfSome (R.rest rules.new) (λ rest. rest ≡ []) }
-    ensures unbuilt { result ≡ Status.NotBuilt → IfBothTold (R.rest rules.old) (told_image (S.state store.old)) HasNoPlan }
+    ensures unbuilt { result ≡ Status.NotBuilt → IfBothTold (R.rest rules.old) (told_image (S.state store.old)) HasNoForm }
+    ensures guarded { (byte number : ℕ) → result ≡ Status.PlanRefused (PlanRefusal.MeetsGuard byte number)
+        → IfBothTold (R.rest rules.old) (told_image (S.state store.old)) (FillsGuard byte number) }
     ensures prefix { result ≡ Status.SinkFault → IfBothTold (R.rest rules.old) (told_image (S.state store.old)) (λ text image.
         HasReport text image (TookPrefixOf (K.taken out.old) (K.taken out.new))) }
     ensures silent { IsSilent result → K.taken out.new ≡ K.taken out.old }
@@ -84,8 +88,8 @@ fn plan_command<S: Store, R: Source, K: Sink>(
 /// Carries out the command of the words, and answers how it ended.
 ///
 /// `plan IMAGE RULES` reads the rule text to its end and then the image, and writes the report of their plan. It is
-/// built for rule texts and images of the first form alone, and for plans with no byte in the guard; every other
-/// command and form is `NotBuilt`. Words that fit no command are `Usage`.
+/// built for rule texts and images of the first form alone; every other command and form is `NotBuilt`. A plan that would
+/// fill a byte of the guard is `PlanRefused`, with the least such byte and its rule. Words that fit no command are `Usage`.
 ///
 /// `DeviceFault`, `SourceFault` and `SinkFault` come only where the store, the source or the sink failed in this call;
 /// `NoMemory` where memory ran out. After `SinkFault` the sink took some first bytes of the report, and after every
@@ -105,13 +109,24 @@ pub fn run<S: Store, R: Source, K: Sink>(
         HasReport text image (λ report. K.taken out.new ≡ taken_with (K.taken out.old) report)) }
     ensures ended { result ≡ Status.Done → IfSome (R.rest rules.new) (λ rest. rest ≡ []) }
 
-    // NotBuilt of `plan`: the rule text or the image has another form, or a planned byte lies in the guard.
+    // NotBuilt of `plan`: the rule text or the image has another form.
     ensures unbuilt { command_of (map (λ word. string_bytes word) words.now) ≡ Some Command.Plan → result ≡ Status.NotBuilt
-        → IfBothTold (R.rest rules.old) (told_image (S.state store.old)) HasNoPlan }
+        → IfBothTold (R.rest rules.old) (told_image (S.state store.old)) HasNoForm }
+
+    // MeetsGuard: the plan would fill this byte of the guard, the least one, by this rule.
+    ensures guarded { (byte number : ℕ) → result ≡ Status.PlanRefused (PlanRefusal.MeetsGuard byte number)
+        → IfBothTold (R.rest rules.old) (told_image (S.state store.old)) (FillsGuard byte number) }
+
+    // With the forms met and nothing counted, the answer is Done or MeetsGuard, as the plan has it, or memory ran out.
     ensures complete { command_of (map (λ word. string_bytes word) words.now) ≡ Some Command.Plan
         → IfBothTold (R.rest rules.old) (told_image (S.state store.old)) (λ text image. HasPlan text image
         → IsCalm (S.faults store.old) (S.faults store.new) → IsCalm (R.faults rules.old) (R.faults rules.new)
         → IsCalm (K.faults out.old) (K.faults out.new) → (result ≡ Status.Done) ⊎ (result ≡ Status.NoMemory)) }
+    ensures complete_guarded { command_of (map (λ word. string_bytes word) words.now) ≡ Some Command.Plan
+        → (byte number : ℕ) → IfBothTold (R.rest rules.old) (told_image (S.state store.old)) (λ text image. FillsGuard byte number text image
+        → IsCalm (S.faults store.old) (S.faults store.new) → IsCalm (R.faults rules.old) (R.faults rules.new)
+        → IsCalm (K.faults out.old) (K.faults out.new)
+        → (result ≡ Status.PlanRefused (PlanRefusal.MeetsGuard byte number)) ⊎ (result ≡ Status.NoMemory)) }
 
     // What a refusal leaves.
     ensures prefix { result ≡ Status.SinkFault → IfBothTold (R.rest rules.old) (told_image (S.state store.old)) (λ text image.

@@ -10,5 +10,5 @@ pub mod status;
 pub mod words;
 
 pub use commands::run;
-pub use status::{Status, write_status};
+pub use status::{PlanRefusal, Status, write_status};
 pub use words::{Command, parse_words};

@@ -1,13 +1,22 @@
 //! What a command answers.
-ghost use Rattle.std.specs.Prelude.{◌≡◌, ◌≤◌, OnOk, OnErr};
+ghost use Rattle.std.specs.Prelude.{◌≡◌, ◌≤◌, ◌++◌, length, OnOk, OnErr};
+ghost use Rattle.arrayvec.specs.ArrayString.{array_string_len};
 ghost use Rattle.disk_defs.specs.Count.{Rose};
 ghost use Rattle.disk_defs.specs.Stream.{taken_with, TookPrefixOf};
-ghost use Rattle.redact_cmd.specs.Status.{code_of, status_line};
+ghost use Rattle.redact_cmd.specs.Status.{code_of, status_line, refusal_text, plain_text};
 ghost use Rattle.redact_cmd.specs.declared.status.Status.TheVariants.{NoMemory};
 
 use arrayvec::ArrayString;
+use itoa::Buffer;
 use rx_store::{Fault, Sink, write_all};
 use std::alloc::{AllocError, AllocFailed};
+
+/// Why a plan is refused.
+#[derive(Clone, Copy, Debug, PartialEq, Eq)]
+pub enum PlanRefusal {
+    /// It would fill this byte of the guard, the least one, by this rule.
+    MeetsGuard(u64, u32),
+}
 
 /// What a command answers.
 #[derive(Clone, Copy, Debug, PartialEq, Eq)]
@@ -16,6 +25,8 @@ pub enum Status {
     Done,
     /// The words ask for no command.
     Usage,
+    /// The rules can't be carried out on the image.
+    PlanRefused(PlanRefusal),
     /// The image or the journal failed.
     DeviceFault,
     /// The rule text failed.
@@ -36,6 +47,7 @@ impl Status {
         match self {
             Status::Done => 0,
             Status::Usage => 2,
+            Status::PlanRefused(_) => 7,
             Status::DeviceFault => 10,
             Status::SourceFault => 11,
             Status::SinkFault => 12,
@@ -74,14 +86,30 @@ pub fn write_status<K: Sink>(status: &Status, sink: &mut K) -> Result<(), Fault>
 /// Room for the longest line.
 const LINE: usize = 160;
 
-/// The line that says a status.
-#[tactic(auto, unfolding(crate::specs::Status::status_line, crate::specs::Status::program_line))]
-fn line_of(status: &Status) -> ArrayString<LINE>
-    ensures { result.bytes ≡ status_line status.now }
+type Line = ArrayString<LINE>;
+
+/// The text that says a refusal of a plan.
+#[tactic(auto, unfolding(crate::specs::Status::refusal_text))]
+fn push_refusal(line: &mut Line, refusal: PlanRefusal)
+    requires { array_string_len line.old ≤ 10 }
+    ensures text { line.new.bytes ≡ line.old.bytes ++ refusal_text refusal }
+    ensures room { array_string_len line.new ≤ 125 }
 {
-    let mut line = ArrayString::new();
-    let text = match status {
-        Status::Done => return line,
+    let PlanRefusal::MeetsGuard(place, rule) = refusal;
+    line.push_str("rule ");
+    line.push_str(Buffer::new().format(rule));
+    line.push_str(" would fill byte ");
+    line.push_str(Buffer::new().format(place));
+    line.push_str(" of the guard");
+}
+
+/// The text that says a status with no operand.
+#[tactic(auto, unfolding(crate::specs::Status::plain_text))]
+fn text_of(status: &Status) -> &'static str
+    ensures text { result.now ≡ plain_text status.now }
+    ensures short { length result.now ≤ 149 }
+{
+    match status {
         Status::Usage => {
             "usage: inventory IMAGE, plan IMAGE RULES, redact IMAGE JOURNAL RULES, resume IMAGE JOURNAL, report JOURNAL, selftest KIND NUMBER FILES"
         }
@@ -90,9 +118,24 @@ fn line_of(status: &Status) -> ArrayString<LINE>
         Status::SinkFault => "output failed",
         Status::NoMemory => "out of memory",
         Status::NotBuilt => "not built yet",
-    };
+        Status::Done | Status::PlanRefused(_) => "",
+    }
+}
+
+/// The line that says a status.
+#[tactic(auto, unfolding(crate::specs::Status::status_line, crate::specs::Status::program_line))]
+fn line_of(status: &Status) -> Line
+    ensures { result.bytes ≡ status_line status.now }
+{
+    let mut line = Line::new();
+    if let Status::Done = status {
+        return line;
+    }
     line.push_str("dfredact: ");
-    line.push_str(text);
+    match status {
+        Status::PlanRefused(refusal) => push_refusal(&mut line, *refusal),
+        _ => line.push_str(text_of(status)),
+    }
     line.push_str("\n");
     line
 }
@@ -119,6 +162,11 @@ mod tests {
             (Status::SinkFault, 12, "dfredact: output failed\n"),
             (Status::NoMemory, 14, "dfredact: out of memory\n"),
             (Status::NotBuilt, 15, "dfredact: not built yet\n"),
+            (
+                Status::PlanRefused(PlanRefusal::MeetsGuard(81920, 1)),
+                7,
+                "dfredact: rule 1 would fill byte 81920 of the guard\n",
+            ),
         ];
         for (status, code, line) in table {
             let mut sink = MemSink::new(rt.alloc(), 200)?;

@@ -2,7 +2,7 @@
 ghost use Rattle.std.specs.Prelude.{◌≡◌, ◌+◌, ◌≤◌, length, vec_len, IfOk};
 
 use crate::small_image::{ENTRIES, FILE, ROOT, SUPERBLOCK, put, small_image};
-use redact_cmd::{Status, run};
+use redact_cmd::{PlanRefusal, Status, run};
 use rx_store::{MemSink, MemSource, MemStore};
 use std::alloc::{AllocError, Global};
 use std::test::Fail;
@@ -210,7 +210,7 @@ fn images_of_another_form_are_not_built(rt: HostRuntime) -> Result<(), Fail> {
         (ENTRIES + 24, b"\x02"),
         (ENTRIES + 24, b"\x01"),
         // the file: a folder, a snapshot, an extended area, a size of more than a block, a pointer that is negative, that
-        // leads past the end, that is 0, and that leads to the root's entries or to the superblock
+        // leads past the end, and that is 0
         (FILE, b"\xA4\x41"),
         (FILE + 88, b"\x00\x00\x20\x00"),
         (FILE + 92, b"\x01"),
@@ -220,8 +220,6 @@ fn images_of_another_form_are_not_built(rt: HostRuntime) -> Result<(), Fail> {
         (FILE + 112, b"\xFF\xFF\xFF\xFF\xFF\xFF\xFF\x7F"),
         (FILE + 112, b"\x40"),
         (FILE + 112, b"\x00"),
-        (FILE + 112, b"\x14"),
-        (FILE + 112, b"\x10"),
     ] {
         let (status, text) = planned(alloc, changed(alloc, at, bytes)?, RULE)?;
         assert_eq!(rt; status, Status::NotBuilt, "at {at}");
@@ -240,6 +238,23 @@ fn short_images_are_not_built(rt: HostRuntime) -> Result<(), Fail> {
         image.truncate(len);
         let (status, text) = planned(alloc, image, RULE)?;
         assert_eq!(rt; status, Status::NotBuilt, "{len} bytes");
+        assert!(rt; text.is_empty());
+    }
+    Ok(())
+}
+
+#[test]
+fn a_plan_that_meets_the_guard_is_refused(rt: HostRuntime) -> Result<(), Fail> {
+    let alloc = rt.alloc();
+    // the file's block is that of the root's entries, of the superblock, or of the inodes
+    for (pointer, byte) in [(20u8, 81920), (16, 65536), (18, 74240)] {
+        let image = changed(alloc, FILE + 112, &[pointer])?;
+        let (status, text) = planned(alloc, image, RULE)?;
+        assert_eq!(rt;
+            status,
+            Status::PlanRefused(PlanRefusal::MeetsGuard(byte, 1))
+        );
+        assert_eq!(rt; status.code(), 7);
         assert!(rt; text.is_empty());
     }
     Ok(())
