@@ -1,0 +1,4 @@
+pub mod WrittenRuns
+pub mod Clusters
+pub mod DecodedRuns
+pub mod RunRows

@@ -1,0 +1,4 @@
+//! What an NTFS volume says.
+#![tactic(auto)]
+
+pub mod runs;
