@@ -2,3 +2,5 @@ pub mod WrittenRuns
 pub mod Clusters
 pub mod DecodedRuns
 pub mod RunRows
+pub mod ListLaws
+pub mod RunLaws
