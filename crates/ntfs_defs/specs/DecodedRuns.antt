@@ -8,16 +8,25 @@ use Rattle.ntfs_defs.specs.declared.runs.RunDamage.{RunDamage}
 use Rattle.ntfs_defs.specs.declared.runs.RunDamage.TheVariants.{TooLong, ZeroRun, Negative, Outside}
 use Rattle.ntfs_defs.specs.WrittenRuns.{run_list, RunList}
 
+-- the cluster of a number: none below 0
+abbrev pub cluster_of_number : ℤ → Option ℕ
+cluster_of_number (pos n) = Some n
+cluster_of_number (negsuc n) = None
+
+-- the cluster to which an offset leads from a base
+unfoldable pub begin_of : ℕ → ℤ → Option ℕ
+begin_of base offset = cluster_of_number (pos base +ℤ offset)
+
 -- a run that begins at a cluster
-abbrev pub run_from : ℕ → ℕ → ℕ → ℤ → Result Run RunDamage
-run_from clusters at len (negsuc n) = Err (Negative at)
-run_from clusters at len (pos first) =
+abbrev pub run_from : ℕ → ℕ → ℕ → Option ℕ → Result Run RunDamage
+run_from clusters at len None = Err (Negative at)
+run_from clusters at len (Some first) =
     if nat_lt clusters (first + len) then Err (Outside at first) else Ok (record { len = len; cluster = Some first })
 
 -- a run with this offset
 abbrev pub run_by : ℕ → ℕ → ℕ → ℕ → Option ℤ → Result Run RunDamage
 run_by clusters base at len None = Ok (record { len = len; cluster = None })
-run_by clusters base at len (Some offset) = run_from clusters at len (pos base +ℤ offset)
+run_by clusters base at len (Some offset) = run_from clusters at len (begin_of base offset)
 
 -- the run that is written behind runs of `total` clusters, where the last one that had an offset begins at `base`
 unfoldable pub checked_run : ℕ → ℕ → ℕ → WrittenRun → Result Run RunDamage

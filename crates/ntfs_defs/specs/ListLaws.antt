@@ -2,6 +2,7 @@
 use Rattle.std.specs.Prelude.{◌≡◌, ℕ, zero, suc, ◌+◌, ◌-◌, ◌%◌, ◌/◌, ◌<◌, ◌≤◌, Bool, true, false, ◌||◌, ◌==◌, nat_lt, nat_le, if◌then◌else◌, Option, Some, None, Result, Ok, Err, List, [], ◌∷◌, ◌++◌, length, slice_index, refl}
 use Rattle.std.proofs.Common.{ap, sym, ◌∙◌, arith, append_assoc, append-nil}
 use Rattle.std.proofs.lemmas.Bool.{le-leb}
+use Rattle.std.proofs.lemmas.Bool.Decides.{nat_tests}
 use Rattle.ntfs_defs.specs.declared.runs.Run.{Run}
 use Rattle.ntfs_defs.specs.declared.runs.WrittenRun.{WrittenRun}
 use Rattle.ntfs_defs.specs.declared.runs.RunDamage.{RunDamage}
@@ -39,6 +40,18 @@ behind_next false bytes at run found =
 pub run_at-next : (bytes : List ℕ) (at : ℕ) (run : WrittenRun) → run_at bytes at ≡ Ok (Some run) → at < run.next
 unfolding run_at
 run_at-next bytes at run found = behind_next (nat_le (length bytes) at) bytes at run found
+
+-- a run begins at a byte
+run_inside : (past : Bool) (bytes : List ℕ) (at : ℕ) (run : WrittenRun)
+    → (if past then Err (Short at) else run_behind bytes at (slice_index bytes at)) ≡ Ok (Some run) → past ≡ false
+run_inside true bytes at run found = absurd (cc)
+run_inside false bytes at run found = refl
+
+pub run_at-inside : (bytes : List ℕ) (at : ℕ) (run : WrittenRun) → run_at bytes at ≡ Ok (Some run) → at < length bytes
+unfolding run_at
+run_at-inside bytes at run found =
+    let inside = run_inside (nat_le (length bytes) at) bytes at run found in
+    grind (arith, nat_tests, inside)
 
 -- lists with the same behind a run are the same
 list_with-same : (first : Result (Option WrittenRun) RunDamage) (behind other : ℕ → RunList)

@@ -10,7 +10,7 @@ use Rattle.ntfs_defs.specs.declared.runs.RunDamage.{RunDamage}
 use Rattle.ntfs_defs.specs.declared.runs.RunDamage.TheVariants.{TooLong, ZeroRun, Negative, Outside}
 use Rattle.ntfs_defs.specs.WrittenRuns.{run_list}
 use Rattle.ntfs_defs.specs.Clusters.{VirtualCluster, Hole, Stored, stored, cluster_of_run, base_behind, cluster_from, cluster, virtual_clusters, cluster_in_run, cluster_in}
-use Rattle.ntfs_defs.specs.DecodedRuns.{run_from, run_by, checked_run, base_after, behind_runs, followed_by, runs_behind, decoded_runs}
+use Rattle.ntfs_defs.specs.DecodedRuns.{cluster_of_number, begin_of, run_from, run_by, checked_run, base_after, behind_runs, followed_by, runs_behind, decoded_runs}
 
 -- a test that a value passed
 past_test : {X : Type 0} (test : Bool) (damage : RunDamage) (rest : Result X RunDamage) (x : X)
@@ -25,18 +25,28 @@ pub record IsCheckedRun (clusters base total : ℕ) (offset : Option ℤ) (len :
   pub same_base : base_behind (pos base) offset ≡ pos (base_after base run.cluster)
   pub inside : IfSome run.cluster (λ first. first + len ≤ clusters)
 
-run_from-ok : (clusters base total at len : ℕ) (offset begin : ℤ) (run : Run) → pos base +ℤ offset ≡ begin → run_from clusters at len begin ≡ Ok run
-    → IsCheckedRun clusters base total (Some offset) len run
-run_from-ok clusters base total at len offset (negsuc n) run is found = absurd (cc)
-run_from-ok clusters base total at len offset (pos first) run is found =
+cluster_of_number-some : (number : ℤ) (n : ℕ) → cluster_of_number number ≡ Some n → number ≡ pos n
+cluster_of_number-some (pos m) n is = cc
+cluster_of_number-some (negsuc m) n is = absurd (cc)
+
+-- an offset that leads to a cluster
+begin_of-some : (base first : ℕ) (offset : ℤ) → begin_of base offset ≡ Some first → pos base +ℤ offset ≡ pos first
+unfolding begin_of
+begin_of-some base first offset is = cluster_of_number-some (pos base +ℤ offset) first is
+
+run_from-ok : (clusters base total at len : ℕ) (offset : ℤ) (begin : Option ℕ) (run : Run) → begin_of base offset ≡ begin
+    → run_from clusters at len begin ≡ Ok run → IsCheckedRun clusters base total (Some offset) len run
+run_from-ok clusters base total at len offset None run is found = absurd (cc)
+run_from-ok clusters base total at len offset (Some first) run is found =
     let passed : (nat_lt clusters (first + len) ≡ false) × (Ok (record { len = len; cluster = Some first }) ≡ Ok run) =
     past_test (nat_lt clusters (first + len)) (Outside at first) (Ok (record { len = len; cluster = Some first })) run found in
     let same : record { len = len; cluster = Some first } ≡ run = cc in
     let P : Run → Type 0 = λ run. IsCheckedRun clusters base total (Some offset) len run in
+    let begins : pos base +ℤ offset ≡ pos first = begin_of-some base first offset is in
     subst P same (record {
       same_len = refl;
-      same_cluster = λ v. ap (λ begin. stored (begin +ℤ pos v)) is;
-      same_base = is;
+      same_cluster = λ v. ap (λ begin. stored (begin +ℤ pos v)) begins;
+      same_base = begins;
       inside = grind (arith, nat_tests, passed.0);
     })
 
@@ -47,7 +57,7 @@ run_by-ok clusters base total at len None run found =
     let P : Run → Type 0 = λ run. IsCheckedRun clusters base total None len run in
     subst P same (record { same_len = refl; same_cluster = λ v. refl; same_base = refl; inside = tt })
 run_by-ok clusters base total at len (Some offset) run found =
-    run_from-ok clusters base total at len offset (pos base +ℤ offset) run refl found
+    run_from-ok clusters base total at len offset (begin_of base offset) run refl found
 
 pub checked_run-ok : (clusters base total : ℕ) (written : WrittenRun) (run : Run) → checked_run clusters base total written ≡ Ok run
     → (0 < written.len) × (total + written.len ≤ 2 ^ 48) × IsCheckedRun clusters base total written.offset written.len run

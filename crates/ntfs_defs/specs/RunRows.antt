@@ -4,7 +4,7 @@ use Rattle.ntfs_defs.specs.declared.runs.Run.{Run}
 use Rattle.ntfs_defs.specs.declared.runs.RunDamage.TheVariants.{TooLong, Short, ZeroRun, Negative, Outside}
 use Rattle.ntfs_defs.specs.WrittenRuns.{run_list, list_from, list_within, run_at, run_behind, run_with, length_at, offset_at}
 use Rattle.ntfs_defs.specs.Clusters.{cluster, virtual_clusters, Hole, Stored}
-use Rattle.ntfs_defs.specs.DecodedRuns.{decoded_runs, checked_run}
+use Rattle.ntfs_defs.specs.DecodedRuns.{decoded_runs, checked_run, begin_of}
 
 -- a run of clusters, and a hole
 run : ℕ → ℕ → Run
@@ -32,15 +32,15 @@ sparse =
     ∷ 0x00 ∷ []
 
 one_fragment : decoded_runs (2 ^ 40) (0x21 ∷ 0x18 ∷ 0x34 ∷ 0x56 ∷ 0x00 ∷ []) ≡ Ok (run 0x18 0x5634 ∷ [])
-unfolding run list_from list_within run_at run_behind run_with length_at offset_at checked_run
+unfolding run list_from list_within run_at run_behind run_with length_at offset_at checked_run begin_of
 one_fragment = refl
 
 three_fragments : decoded_runs (2 ^ 40) fragments ≡ Ok (run 0x38 0x342573 ∷ run 0x114 0x363758 ∷ run 0x42 0x393802 ∷ [])
-unfolding run list_from list_within run_at run_behind run_with length_at offset_at checked_run
+unfolding run list_from list_within run_at run_behind run_with length_at offset_at checked_run begin_of
 three_fragments = refl
 
 with_a_hole : decoded_runs (2 ^ 40) sparse ≡ Ok (run 0x14 0x100 ∷ run 0x10 0x118 ∷ run 5 0x12D ∷ hole 0x27 ∷ run 0x20 0x132 ∷ [])
-unfolding run hole list_from list_within run_at run_behind run_with length_at offset_at checked_run
+unfolding run hole list_from list_within run_at run_behind run_with length_at offset_at checked_run begin_of
 with_a_hole = refl
 
 -- its virtual clusters: the first one, the last one of the first run, the first ones of the third run, of the hole and
@@ -79,15 +79,15 @@ behind_the_end = refl
 
 -- an offset below 0 leads back
 back : decoded_runs (2 ^ 40) (0x11 ∷ 0x05 ∷ 0x0A ∷ 0x11 ∷ 0x02 ∷ 0xFB ∷ 0x00 ∷ []) ≡ Ok (run 5 10 ∷ run 2 5 ∷ [])
-unfolding run list_from list_within run_at run_behind run_with length_at offset_at checked_run
+unfolding run list_from list_within run_at run_behind run_with length_at offset_at checked_run begin_of
 back = refl
 
 back_too_far : decoded_runs (2 ^ 40) (0x11 ∷ 0x05 ∷ 0x0A ∷ 0x11 ∷ 0x02 ∷ 0xF5 ∷ 0x00 ∷ []) ≡ Err (Negative 3)
-unfolding list_from list_within run_at run_behind run_with length_at offset_at checked_run
+unfolding list_from list_within run_at run_behind run_with length_at offset_at checked_run begin_of
 back_too_far = refl
 
 cut_offset : decoded_runs (2 ^ 40) (0x21 ∷ 0x18 ∷ 0x34 ∷ []) ≡ Err (Short 0)
-unfolding list_from list_within run_at run_behind run_with length_at offset_at checked_run
+unfolding list_from list_within run_at run_behind run_with length_at offset_at checked_run begin_of
 cut_offset = refl
 
 no_bytes : decoded_runs (2 ^ 40) [] ≡ Err (Short 0)
@@ -95,16 +95,16 @@ unfolding list_from list_within
 no_bytes = refl
 
 no_last_header : decoded_runs (2 ^ 40) (0x11 ∷ 0x05 ∷ 0x0A ∷ []) ≡ Err (Short 3)
-unfolding list_from list_within run_at run_behind run_with length_at offset_at checked_run
+unfolding list_from list_within run_at run_behind run_with length_at offset_at checked_run begin_of
 no_last_header = refl
 
 no_length : decoded_runs (2 ^ 40) (0x11 ∷ 0x00 ∷ 0x05 ∷ 0x00 ∷ []) ≡ Err (ZeroRun 0)
-unfolding list_from list_within run_at run_behind run_with length_at offset_at checked_run
+unfolding list_from list_within run_at run_behind run_with length_at offset_at checked_run begin_of
 no_length = refl
 
 -- no length bytes are a length of 0
 no_length_bytes : decoded_runs (2 ^ 40) (0x10 ∷ 0x05 ∷ 0x00 ∷ []) ≡ Err (ZeroRun 0)
-unfolding list_from list_within run_at run_behind run_with length_at offset_at checked_run
+unfolding list_from list_within run_at run_behind run_with length_at offset_at checked_run begin_of
 no_length_bytes = refl
 
 nine_length_bytes : decoded_runs (2 ^ 40) (0x19 ∷ 0x00 ∷ []) ≡ Err (TooLong 0)
@@ -117,23 +117,23 @@ nine_offset_bytes = refl
 
 -- 2^48 clusters are not too many, and one more is, also where it begins below 0
 most : decoded_runs (2 ^ 40) (0x07 ∷ 0 ∷ 0 ∷ 0 ∷ 0 ∷ 0 ∷ 0 ∷ 1 ∷ 0x00 ∷ []) ≡ Ok (hole (2 ^ 48) ∷ [])
-unfolding hole list_from list_within run_at run_behind run_with length_at offset_at checked_run
+unfolding hole list_from list_within run_at run_behind run_with length_at offset_at checked_run begin_of
 most = refl
 
 one_more : decoded_runs (2 ^ 40) (0x07 ∷ 0 ∷ 0 ∷ 0 ∷ 0 ∷ 0 ∷ 0 ∷ 1 ∷ 0x11 ∷ 0x01 ∷ 0xFF ∷ 0x00 ∷ []) ≡ Err (TooLong 8)
-unfolding list_from list_within run_at run_behind run_with length_at offset_at checked_run
+unfolding list_from list_within run_at run_behind run_with length_at offset_at checked_run begin_of
 one_more = refl
 
 -- a run may end where the volume does
 up_to_the_end : decoded_runs 7 (0x11 ∷ 0x02 ∷ 0x05 ∷ 0x00 ∷ []) ≡ Ok (run 2 5 ∷ [])
-unfolding run list_from list_within run_at run_behind run_with length_at offset_at checked_run
+unfolding run list_from list_within run_at run_behind run_with length_at offset_at checked_run begin_of
 up_to_the_end = refl
 
 past_the_end : decoded_runs 6 (0x11 ∷ 0x02 ∷ 0x05 ∷ 0x00 ∷ []) ≡ Err (Outside 0 5)
-unfolding list_from list_within run_at run_behind run_with length_at offset_at checked_run
+unfolding list_from list_within run_at run_behind run_with length_at offset_at checked_run begin_of
 past_the_end = refl
 
 -- what stands behind the header 0 doesn't count
 behind_the_list : decoded_runs 7 (0x11 ∷ 0x02 ∷ 0x05 ∷ 0x00 ∷ 0x19 ∷ []) ≡ Ok (run 2 5 ∷ [])
-unfolding run list_from list_within run_at run_behind run_with length_at offset_at checked_run
+unfolding run list_from list_within run_at run_behind run_with length_at offset_at checked_run begin_of
 behind_the_list = refl

@@ -1,8 +1,8 @@
 -- Run lists as their bytes say them. The low half of a header byte is the number of length bytes that follow it, and
 -- the high half is the number of offset bytes that follow those. The length is unsigned, and the offset is signed, both
 -- with the lowest byte first. A run without offset bytes is a hole. A header of 0 ends the list.
-use Rattle.std.specs.Prelude.{ℕ, zero, suc, ◌+◌, ◌-◌, ◌%◌, ◌/◌, ℤ, Bool, ◌||◌, ◌==◌, nat_lt, nat_le, if◌then◌else◌, Option, Some, None, Result, Ok, Err, List, [], ◌∷◌, length, slice_index}
-use Rattle.byteorder.specs.Endian.{little_from, twos_complement}
+use Rattle.std.specs.Prelude.{ℕ, zero, suc, ◌+◌, ◌-◌, ◌%◌, ◌/◌, ℤ, Bool, ◌||◌, ◌==◌, nat_lt, nat_le, if◌then◌else◌, Option, Some, None, Result, Ok, Err, List, [], ◌∷◌, length, drop, slice_index}
+use Rattle.byteorder.specs.Endian.{little_number, twos_complement}
 use Rattle.ntfs_defs.specs.declared.runs.WrittenRun.{WrittenRun}
 use Rattle.ntfs_defs.specs.declared.runs.RunDamage.{RunDamage}
 use Rattle.ntfs_defs.specs.declared.runs.RunDamage.TheVariants.{TooLong, Short}
@@ -16,11 +16,11 @@ offset_bytes header = header / 16
 
 -- the length in a number of bytes from a place on
 unfoldable pub length_at : List ℕ → ℕ → ℕ → ℕ
-length_at bytes at count = little_from at count bytes
+length_at bytes at count = little_number count (drop at bytes)
 
 -- the offset in a number of bytes from a place on: none where there are no bytes
 unfoldable pub offset_at : List ℕ → ℕ → ℕ → Option ℤ
-offset_at bytes at count = if count == 0 then None else Some (twos_complement count (little_from at count bytes))
+offset_at bytes at count = if count == 0 then None else Some (twos_complement count (little_number count (drop at bytes)))
 
 -- the run whose header byte stands at a place
 unfoldable pub run_with : List ℕ → ℕ → ℕ → WrittenRun

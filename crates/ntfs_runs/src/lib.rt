@@ -1,13 +1,12 @@
-// A library with one function.
+//! Run lists: where the clusters of an attribute stand.
 #![tactic(auto)]
 
-ghost use Rattle.std.specs.Prelude.{◌≡◌};
-ghost use Rattle.ntfs_runs.specs.Echo.{echo_of};
+pub mod decode;
+pub mod fault;
+pub mod runs;
+pub(crate) mod written;
 
-// The `ensures` clause is the contract: what `echo` returns is `echo_of` of its argument, a definition
-// in `specs/Echo.antt`, which a caller's clause can cite too.
-pub fn echo(x: usize) -> usize
-    ensures { result ≡ echo_of x }
-{
-    x
-}
+pub use decode::decode_runs;
+pub use fault::RunFault;
+pub use ntfs_defs::runs::Run;
+pub use runs::Runs;
