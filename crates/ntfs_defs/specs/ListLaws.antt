@@ -140,7 +140,7 @@ decoding_stops clusters bytes runs base total at damage walked is = decoded_at c
 decoded_run : (clusters : ℕ) (bytes : List ℕ) (runs : List Run) (base total at : ℕ) (written : WrittenRun) (checked : Result Run RunDamage)
     → IsDecodedTo clusters bytes runs base total at → run_at bytes at ≡ Ok (Some written) → checked_run clusters base total written ≡ checked
     → decoded_runs clusters bytes
-      ≡ behind_runs runs (followed_by checked (λ run. of_list clusters (base_after base run.cluster) (total + run.len) (list_from bytes written.next)))
+    ≡ behind_runs runs (followed_by checked (λ run. of_list clusters (base_after base run.cluster) (total + run.len) (list_from bytes written.next)))
 unfolding of_list
 decoded_run clusters bytes runs base total at written checked walked found is =
     decoded_at clusters bytes runs base total at (Ok (Some written)) walked found

@@ -95,7 +95,7 @@ cluster_in-more : (clusters base total len : ℕ) (offset : Option ℤ) (run : R
     → IsCheckedRun clusters base total offset len run
     → ((v : ℕ) → cluster_in runs v ≡ cluster_from (pos (base_after base run.cluster)) written v)
     → (if nat_lt v run.len then Some (cluster_in_run run.cluster v) else cluster_in runs (v - run.len))
-      ≡ (if nat_lt v len then cluster_of_run (pos base) offset v else cluster_from (base_behind (pos base) offset) written (v - len))
+    ≡ (if nat_lt v len then cluster_of_run (pos base) offset v else cluster_from (base_behind (pos base) offset) written (v - len))
 cluster_in-more clusters base total len offset run written runs v checked behind =
     rw (checked.same_len, checked.same_cluster v, checked.same_base, behind (v - len)) refl
 
@@ -155,11 +155,34 @@ cluster_in-none (run ∷ runs) v =
     (cluster_at run.len (sum_by (λ run. run.len) runs) v (cluster_in_run run.cluster v) (cluster_in runs (v - run.len)) (nat_lt v run.len) refl
     (cluster_in-none runs (v - run.len)))
 
--- the same of a list of run bytes
-pub cluster-none : (clusters : ℕ) (bytes : List ℕ) (runs : List Run) (v : ℕ) → decoded_runs clusters bytes ≡ Ok runs
-    → (cluster bytes v ≡ None) ↔ (virtual_clusters bytes ≤ v)
-cluster-none clusters bytes runs v found =
-    let decoded = decoded_runs-ok clusters bytes runs found in
+-- the runs of a list of run bytes have its clusters, and as many
+pub decoded_clusters : (clusters : ℕ) (bytes : List ℕ) (runs : List Run) → decoded_runs clusters bytes ≡ Ok runs
+    → (v : ℕ) → cluster_in runs v ≡ cluster bytes v
+decoded_clusters clusters bytes runs found = (decoded_runs-ok clusters bytes runs found).same_clusters
+
+pub decoded_sum : (clusters : ℕ) (bytes : List ℕ) (runs : List Run) → decoded_runs clusters bytes ≡ Ok runs
+    → sum_by (λ run. run.len) runs ≡ virtual_clusters bytes
+decoded_sum clusters bytes runs found = (decoded_runs-ok clusters bytes runs found).same_sum
+
+-- nothing stands behind their end
+pub decoded_end : (clusters : ℕ) (bytes : List ℕ) (runs : List Run) → decoded_runs clusters bytes ≡ Ok runs
+    → (v : ℕ) → (cluster bytes v ≡ None) ↔ (virtual_clusters bytes ≤ v)
+decoded_end clusters bytes runs found v =
+    let same = decoded_clusters clusters bytes runs found v in
+    let sum = decoded_sum clusters bytes runs found in
     let ends = cluster_in-none runs v in
-    (λ none. subst (λ sum. sum ≤ v) decoded.same_sum (ends.0 (decoded.same_clusters v ∙ none)),
-     λ past. sym (decoded.same_clusters v) ∙ ends.1 (subst (λ sum. sum ≤ v) (sym decoded.same_sum) past))
+    (λ none. subst (λ sum. sum ≤ v) sum (ends.0 (same ∙ none)), λ past. sym same ∙ ends.1 (subst (λ sum. sum ≤ v) (sym sum) past))
+
+-- they are at most so many, none of them is empty, and they lie on the volume
+pub decoded_at_most : (clusters : ℕ) (bytes : List ℕ) (runs : List Run) → decoded_runs clusters bytes ≡ Ok runs
+    → sum_by (λ run. run.len) runs ≤ 2 ^ 48
+decoded_at_most clusters bytes runs found =
+    let fits = (decoded_runs-ok clusters bytes runs found).at_most (omega arith) in
+    omega (arith, fits)
+
+pub decoded_none_empty : (clusters : ℕ) (bytes : List ℕ) (runs : List Run) → decoded_runs clusters bytes ≡ Ok runs → All (λ run. 0 < run.len) runs
+decoded_none_empty clusters bytes runs found = (decoded_runs-ok clusters bytes runs found).none_empty
+
+pub decoded_all_inside : (clusters : ℕ) (bytes : List ℕ) (runs : List Run) → decoded_runs clusters bytes ≡ Ok runs
+    → All (λ run. IfSome run.cluster (λ first. first + run.len ≤ clusters)) runs
+decoded_all_inside clusters bytes runs found = (decoded_runs-ok clusters bytes runs found).all_inside

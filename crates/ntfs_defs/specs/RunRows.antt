@@ -1,5 +1,5 @@
 -- What the definitions say of some run lists, worked out by hand.
-use Rattle.std.specs.Prelude.{◌≡◌, ℕ, ◌^◌, List, [], ◌∷◌, length, Some, None, Ok, Err, refl}
+use Rattle.std.specs.Prelude.{◌≡◌, ℕ, ◌^◌, ◌-◌, List, [], ◌∷◌, ◌++◌, Some, None, Ok, Err, refl}
 use Rattle.ntfs_defs.specs.declared.runs.Run.{Run}
 use Rattle.ntfs_defs.specs.declared.runs.RunDamage.TheVariants.{TooLong, Short, ZeroRun, Negative, Outside}
 use Rattle.ntfs_defs.specs.WrittenRuns.{run_list, list_from, list_within, run_at, run_behind, run_with, length_at, offset_at}
@@ -137,3 +137,29 @@ past_the_end = refl
 behind_the_list : decoded_runs 7 (0x11 ∷ 0x02 ∷ 0x05 ∷ 0x00 ∷ 0x19 ∷ []) ≡ Ok (run 2 5 ∷ [])
 unfolding run list_from list_within run_at run_behind run_with length_at offset_at checked_run begin_of
 behind_the_list = refl
+
+-- offsets of eight bytes: the last cluster of the largest volume, one that leads past it, and one that leads below 0
+abbrev far : List ℕ
+far = 0x81 ∷ 0x01 ∷ 0xFF ∷ 0xFF ∷ 0xFF ∷ 0xFF ∷ 0xFF ∷ 0xFF ∷ 0xFF ∷ 0x7F ∷ []
+
+far_offset : decoded_runs (2 ^ 63) (far ++ 0x00 ∷ []) ≡ Ok (run 1 (2 ^ 63 - 1) ∷ [])
+unfolding run list_from list_within run_at run_behind run_with length_at offset_at checked_run begin_of
+far_offset = refl
+
+too_far_offset : decoded_runs (2 ^ 63) (far ++ far) ≡ Err (Outside 10 (2 ^ 64 - 2))
+unfolding list_from list_within run_at run_behind run_with length_at offset_at checked_run begin_of
+too_far_offset = refl
+
+far_back : decoded_runs (2 ^ 63) (far ++ 0x81 ∷ 0x01 ∷ 0 ∷ 0 ∷ 0 ∷ 0 ∷ 0 ∷ 0 ∷ 0 ∷ 0x80 ∷ []) ≡ Err (Negative 10)
+unfolding list_from list_within run_at run_behind run_with length_at offset_at checked_run begin_of
+far_back = refl
+
+-- a length of eight bytes is unsigned
+long_length : decoded_runs (2 ^ 63) (0x08 ∷ 0xFF ∷ 0xFF ∷ 0xFF ∷ 0xFF ∷ 0xFF ∷ 0xFF ∷ 0xFF ∷ 0xFF ∷ 0x00 ∷ []) ≡ Err (TooLong 0)
+unfolding list_from list_within run_at run_behind run_with length_at offset_at checked_run begin_of
+long_length = refl
+
+-- a length byte above 0x7F isn't below 0
+unsigned_length : decoded_runs (2 ^ 40) (0x11 ∷ 0x80 ∷ 0x05 ∷ 0x00 ∷ []) ≡ Ok (run 128 5 ∷ [])
+unfolding run list_from list_within run_at run_behind run_with length_at offset_at checked_run begin_of
+unsigned_length = refl

@@ -4,6 +4,8 @@
 pub mod decode;
 pub mod fault;
 pub mod runs;
+#[cfg(test)]
+mod tests;
 pub(crate) mod written;
 
 pub use decode::decode_runs;

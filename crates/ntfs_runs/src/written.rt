@@ -9,8 +9,8 @@ use ntfs_defs::runs::{Run, RunDamage, WrittenRun};
 /// The runs of one list have at most so many clusters together.
 const MOST_CLUSTERS: u64 = 1 << 48;
 
-#[tactic(auto, using(crate::proofs::Reading::rest_from), unfolding(ntfs_defs::specs::WrittenRuns::length_at))]
 /// The length in `count` bytes from a place on.
+#[tactic(auto, using(crate::proofs::Reading::rest_from), unfolding(ntfs_defs::specs::WrittenRuns::length_at))]
 fn length_at(bytes: &[u8], at: usize, count: usize) -> u64
     requires few { count ≤ 8 }
     requires inside { at + count ≤ length bytes.now }
@@ -22,8 +22,8 @@ fn length_at(bytes: &[u8], at: usize, count: usize) -> u64
     LittleEndian::read_uint(&bytes[at..], count)
 }
 
-#[tactic(auto, using(crate::proofs::Reading::rest_from), unfolding(ntfs_defs::specs::WrittenRuns::offset_at))]
 /// The offset in `count` bytes from a place on; None where there are no bytes.
+#[tactic(auto, using(crate::proofs::Reading::rest_from), unfolding(ntfs_defs::specs::WrittenRuns::offset_at))]
 fn offset_at(bytes: &[u8], at: usize, count: usize) -> Option<i64>
     requires few { count ≤ 8 }
     requires inside { at + count ≤ length bytes.now }
@@ -35,8 +35,8 @@ fn offset_at(bytes: &[u8], at: usize, count: usize) -> Option<i64>
     Some(LittleEndian::read_int(&bytes[at..], count))
 }
 
-#[tactic(auto, unfolding(ntfs_defs::specs::WrittenRuns::run_at, ntfs_defs::specs::WrittenRuns::run_behind, ntfs_defs::specs::WrittenRuns::run_with))]
 /// The run whose header byte stands at a place; None where the list ends there.
+#[tactic(auto, unfolding(ntfs_defs::specs::WrittenRuns::run_at, ntfs_defs::specs::WrittenRuns::run_behind, ntfs_defs::specs::WrittenRuns::run_with))]
 pub(crate) fn run_at(bytes: &[u8], at: usize) -> Result<Option<WrittenRun>, RunDamage>
     ensures { result ≡ run_at_by bytes.now at }
 {
@@ -64,8 +64,8 @@ pub(crate) fn run_at(bytes: &[u8], at: usize) -> Result<Option<WrittenRun>, RunD
     }))
 }
 
-#[tactic(auto, unfolding(ntfs_defs::specs::DecodedRuns::begin_of))]
 /// The cluster to which an offset leads from a base; None where that is below 0.
+#[tactic(auto, unfolding(ntfs_defs::specs::DecodedRuns::begin_of))]
 fn begin(base: u64, offset: i64) -> Option<u64>
     requires { base ≤ 2 ^ 63 }
     ensures { result ≡ begin_of base offset }
@@ -73,10 +73,15 @@ fn begin(base: u64, offset: i64) -> Option<u64>
     base.checked_add_signed(offset)
 }
 
-#[tactic(auto, unfolding(ntfs_defs::specs::DecodedRuns::checked_run))]
 /// A run that passes its checks on a volume of `clusters` clusters. It stands behind runs of `total` clusters, of which
 /// the last one that had an offset begins at `base`.
-pub(crate) fn checked_run(written: &WrittenRun, base: u64, total: u64, clusters: u64) -> Result<Run, RunDamage>
+#[tactic(auto, unfolding(ntfs_defs::specs::DecodedRuns::checked_run))]
+pub(crate) fn checked_run(
+    written: &WrittenRun,
+    base: u64,
+    total: u64,
+    clusters: u64,
+) -> Result<Run, RunDamage>
     requires few_clusters { clusters ≤ 2 ^ 63 }
     requires base_inside { base ≤ 2 ^ 63 }
     requires total_fits { total ≤ 2 ^ 48 }
@@ -96,7 +101,7 @@ pub(crate) fn checked_run(written: &WrittenRun, base: u64, total: u64, clusters:
     let Some(cluster) = begin(base, offset) else {
         return Err(RunDamage::Negative { at });
     };
-    if len > clusters || cluster > clusters - len {
+    if cluster > clusters || len > clusters - cluster {
         return Err(RunDamage::Outside { at, cluster });
     }
     Ok(Run {
