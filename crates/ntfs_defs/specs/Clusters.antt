@@ -3,7 +3,7 @@
 use Rattle.std.specs.Prelude.{ℕ, ◌+◌, ◌-◌, ℤ, pos, negsuc, ◌+ℤ◌, nat_lt, if◌then◌else◌, Option, Some, None, List, [], ◌∷◌, sum_by}
 use Rattle.ntfs_defs.specs.declared.runs.Run.{Run}
 use Rattle.ntfs_defs.specs.declared.runs.WrittenRun.{WrittenRun}
-use Rattle.ntfs_defs.specs.WrittenRuns.{run_list, RunList}
+use Rattle.ntfs_defs.specs.WrittenRuns.{run_list}
 
 -- what a virtual cluster is: a hole, or stored in a cluster of the volume
 pub data VirtualCluster : Type 0 where

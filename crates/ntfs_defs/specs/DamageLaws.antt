@@ -1,5 +1,5 @@
 -- The damage that is told is the first one.
-use Rattle.std.specs.Prelude.{◌≡◌, ℕ, ◌+◌, ◌<◌, ◌≤◌, ◌^◌, ◌==◌, ◌↔◌, ℤ, pos, negsuc, ◌+ℤ◌, ◌⊎◌, Bool, true, false, nat_lt, if◌then◌else◌, Option, Some, None, Result, Ok, Err, IsOk, List, [], ◌∷◌, ◌++◌, sum_by, refl}
+use Rattle.std.specs.Prelude.{◌≡◌, ℕ, ◌+◌, ◌<◌, ◌≤◌, ◌^◌, ◌==◌, ◌↔◌, ℤ, pos, negsuc, ◌+ℤ◌, Bool, true, false, nat_lt, if◌then◌else◌, Option, Some, None, Result, Ok, Err, is_ok, IsOk, List, [], ◌∷◌, ◌++◌, refl}
 use Rattle.std.proofs.Common.{ap, sym, ◌∙◌, arith, subst, inl, inr, ⊎_elim}
 use Rattle.std.proofs.lemmas.Bool.Decides.{nat_tests}
 use Rattle.std.proofs.lemmas.Int.{ints}
@@ -9,7 +9,7 @@ use Rattle.ntfs_defs.specs.declared.runs.WrittenRun.{WrittenRun}
 use Rattle.ntfs_defs.specs.declared.runs.RunDamage.{RunDamage}
 use Rattle.ntfs_defs.specs.declared.runs.RunDamage.TheVariants.{TooLong, Short, ZeroRun, Negative, Outside}
 use Rattle.ntfs_defs.specs.Clusters.{base_behind}
-use Rattle.ntfs_defs.specs.Damage.{offset_or_0, sum_of_offsets, sum_of_lengths, begin_behind, IsOnVolume, IsSound, IsBelow, IsOffVolume, HasDamage, AreSound, IsFirstDamage}
+use Rattle.ntfs_defs.specs.Damage.{offset_or_0, sum_of_offsets, sum_of_lengths, begin_behind, IsOnVolume, IsSound, IsOffVolume, HasDamage, AreSound, IsFirstDamage}
 use Rattle.ntfs_defs.specs.DecodedRuns.{cluster_of_number, begin_of, run_from, run_by, checked_run, base_after, behind_runs, followed_by, runs_behind, decoded_runs}
 use Rattle.ntfs_defs.specs.RunLaws.{IsCheckedRun, checked_run-ok}
 use Rattle.ntfs_defs.specs.WrittenRuns.{run_list}
@@ -243,9 +243,11 @@ first_damage clusters base total front (written ∷ runs) end damage stands foun
         → IsFirstDamage clusters front (written ∷ runs) end damage
     by_run behind (Err other) is found = inl (checked-damage clusters base total front written damage stands (cc))
     by_run behind (Ok run) is found =
-        inr (checked-sound clusters base total front written run stands is,
+        inr (
+          checked-sound clusters base total front written run stands is,
           behind run (stands_next clusters base total front written run stands (checked_run-ok clusters base total written run is).2)
-          (behind_runs-err (run ∷ []) (runs_behind clusters (base_after base run.cluster) (total + run.len) runs end) damage found))
+              (behind_runs-err (run ∷ []) (runs_behind clusters (base_after base run.cluster) (total + run.len) runs end) damage found),
+        )
 
 -- the first damage is told
 first_damage-told : (clusters base total : ℕ) (front runs : List WrittenRun) (end : Option RunDamage) (damage : RunDamage) → Stands front base total
@@ -254,14 +256,14 @@ first_damage-told clusters base total front [] end damage stands first = ap (λ 
 first_damage-told clusters base total front (written ∷ runs) end damage stands first =
     ⊎_elim
     (λ damaged. ap (λ checked. followed_by checked (λ run. runs_behind clusters (base_after base run.cluster) (total + run.len) runs end))
-      (damage-checked clusters base total front written damage stands damaged))
+    (damage-checked clusters base total front written damage stands damaged))
     (λ behind.
     let found = sound-checked clusters base total front written stands behind.0 in
     let run : Run = found.0 in
     ap (λ checked. followed_by checked (λ run. runs_behind clusters (base_after base run.cluster) (total + run.len) runs end)) found.1
     ∙ ap (λ rest. behind_runs (run ∷ []) rest)
-      (first_damage-told clusters (base_after base run.cluster) (total + run.len) (front ++ written ∷ []) runs end damage
-      (stands_next clusters base total front written run stands (checked_run-ok clusters base total written run found.1).2) behind.1))
+    (first_damage-told clusters (base_after base run.cluster) (total + run.len) (front ++ written ∷ []) runs end damage
+    (stands_next clusters base total front written run stands (checked_run-ok clusters base total written run found.1).2) behind.1))
     first
 
 -- runs are told only where all are sound and nothing is wrong behind them
@@ -285,17 +287,43 @@ told_sound clusters base total front (written ∷ runs) end told stands found =
         let sound = behind run rest.0 (stands_next clusters base total front written run stands (checked_run-ok clusters base total written run is).2) rest.1 in
         ((checked-sound clusters base total front written run stands is, sound.0), sound.1)
 
+-- and of each such list they are told
+sound_told : (clusters base total : ℕ) (front runs : List WrittenRun) (end : Option RunDamage) → Stands front base total
+    → AreSound clusters front runs → end ≡ None → (told : List Run) × (runs_behind clusters base total runs end ≡ Ok told)
+sound_told clusters base total front [] end stands sound is = ([], ap (λ end. runs_behind clusters base total [] end) is)
+sound_told clusters base total front (written ∷ runs) end stands sound is =
+    let found = sound-checked clusters base total front written stands sound.0 in
+    let run : Run = found.0 in
+    let behind = sound_told clusters (base_after base run.cluster) (total + run.len) (front ++ written ∷ []) runs end
+    (stands_next clusters base total front written run stands (checked_run-ok clusters base total written run found.1).2) sound.1 is in (
+      run ∷ behind.0,
+      ap (λ checked. followed_by checked (λ run. runs_behind clusters (base_after base run.cluster) (total + run.len) runs end)) found.1
+          ∙ ap (λ rest. behind_runs (run ∷ []) rest) behind.1,
+    )
+
 stands_first : Stands [] 0 0
 stands_first = record { base_is = refl; total_is = refl }
 
 -- a damage is told exactly where it is the first
 pub decoded_damage : (clusters : ℕ) (bytes : List ℕ) (damage : RunDamage)
     → (decoded_runs clusters bytes ≡ Err damage) ↔ IsFirstDamage clusters [] (run_list bytes).runs (run_list bytes).damage damage
-decoded_damage clusters bytes damage =
-    (first_damage clusters 0 0 [] (run_list bytes).runs (run_list bytes).damage damage stands_first,
-     first_damage-told clusters 0 0 [] (run_list bytes).runs (run_list bytes).damage damage stands_first)
+decoded_damage clusters bytes damage = (
+  first_damage clusters 0 0 [] (run_list bytes).runs (run_list bytes).damage damage stands_first,
+  first_damage-told clusters 0 0 [] (run_list bytes).runs (run_list bytes).damage damage stands_first,
+)
 
--- runs are told only of a list that is sound up to its header 0
-pub decoded_sound : (clusters : ℕ) (bytes : List ℕ) (runs : List Run) → decoded_runs clusters bytes ≡ Ok runs
-    → AreSound clusters [] (run_list bytes).runs × ((run_list bytes).damage ≡ None)
-decoded_sound clusters bytes runs found = told_sound clusters 0 0 [] (run_list bytes).runs (run_list bytes).damage runs stands_first found
+-- runs are told exactly of a list that is sound up to its header 0
+is_told : {X : Type 0} (said : Result X RunDamage) → IsOk said → (x : X) × (said ≡ Ok x)
+is_told (Ok x) ok = (x, refl)
+is_told (Err damage) ok = absurd (cc)
+
+pub decoded_sound : (clusters : ℕ) (bytes : List ℕ)
+    → IsOk (decoded_runs clusters bytes) ↔ (AreSound clusters [] (run_list bytes).runs × ((run_list bytes).damage ≡ None))
+decoded_sound clusters bytes = (
+  λ ok.
+      let told = is_told (decoded_runs clusters bytes) ok in
+      told_sound clusters 0 0 [] (run_list bytes).runs (run_list bytes).damage told.0 stands_first told.1,
+  λ (sound, ends).
+      let told = sound_told clusters 0 0 [] (run_list bytes).runs (run_list bytes).damage stands_first sound ends in
+      ap is_ok told.1,
+)

@@ -6,7 +6,7 @@ use Rattle.ntfs_defs.specs.declared.runs.Run.{Run}
 use Rattle.ntfs_defs.specs.declared.runs.WrittenRun.{WrittenRun}
 use Rattle.ntfs_defs.specs.declared.runs.RunDamage.{RunDamage}
 use Rattle.ntfs_defs.specs.declared.runs.RunDamage.TheVariants.{TooLong, ZeroRun, Negative, Outside}
-use Rattle.ntfs_defs.specs.WrittenRuns.{run_list, RunList}
+use Rattle.ntfs_defs.specs.WrittenRuns.{run_list}
 
 -- the cluster of a number: none below 0
 abbrev pub cluster_of_number : ℤ → Option ℕ

@@ -7,9 +7,9 @@ use Rattle.std.proofs.lemmas.List.Sums.{sum_by-cons}
 use Rattle.ntfs_defs.specs.declared.runs.Run.{Run}
 use Rattle.ntfs_defs.specs.declared.runs.WrittenRun.{WrittenRun}
 use Rattle.ntfs_defs.specs.declared.runs.RunDamage.{RunDamage}
-use Rattle.ntfs_defs.specs.declared.runs.RunDamage.TheVariants.{TooLong, ZeroRun, Negative, Outside}
+use Rattle.ntfs_defs.specs.declared.runs.RunDamage.TheVariants.{TooLong, ZeroRun, Outside}
 use Rattle.ntfs_defs.specs.WrittenRuns.{run_list}
-use Rattle.ntfs_defs.specs.Clusters.{VirtualCluster, Hole, Stored, stored, cluster_of_run, base_behind, cluster_from, cluster, virtual_clusters, cluster_in_run, cluster_in}
+use Rattle.ntfs_defs.specs.Clusters.{VirtualCluster, stored, cluster_of_run, base_behind, cluster_from, cluster, virtual_clusters, cluster_in_run, cluster_in}
 use Rattle.ntfs_defs.specs.DecodedRuns.{cluster_of_number, begin_of, run_from, run_by, checked_run, base_after, behind_runs, followed_by, runs_behind, decoded_runs}
 
 -- a test that a value passed

@@ -2,7 +2,7 @@
 use Rattle.std.specs.Prelude.{◌≡◌, ℕ, ◌^◌, ◌-◌, List, [], ◌∷◌, ◌++◌, Some, None, Ok, Err, refl}
 use Rattle.ntfs_defs.specs.declared.runs.Run.{Run}
 use Rattle.ntfs_defs.specs.declared.runs.RunDamage.TheVariants.{TooLong, Short, ZeroRun, Negative, Outside}
-use Rattle.ntfs_defs.specs.WrittenRuns.{run_list, list_from, list_within, run_at, run_behind, run_with, length_at, offset_at}
+use Rattle.ntfs_defs.specs.WrittenRuns.{list_from, list_within, run_at, run_behind, run_with, length_at, offset_at}
 use Rattle.ntfs_defs.specs.Clusters.{cluster, virtual_clusters, Hole, Stored}
 use Rattle.ntfs_defs.specs.DecodedRuns.{decoded_runs, checked_run, begin_of}
 

@@ -1,7 +1,7 @@
 -- Run lists as their bytes say them. The low half of a header byte is the number of length bytes that follow it, and
 -- the high half is the number of offset bytes that follow those. The length is unsigned, and the offset is signed, both
 -- with the lowest byte first. A run without offset bytes is a hole. A header of 0 ends the list.
-use Rattle.std.specs.Prelude.{ℕ, zero, suc, ◌+◌, ◌-◌, ◌%◌, ◌/◌, ℤ, Bool, ◌||◌, ◌==◌, nat_lt, nat_le, if◌then◌else◌, Option, Some, None, Result, Ok, Err, List, [], ◌∷◌, length, drop, slice_index}
+use Rattle.std.specs.Prelude.{ℕ, zero, suc, ◌+◌, ◌-◌, ◌%◌, ◌/◌, ℤ, ◌||◌, ◌==◌, nat_lt, nat_le, if◌then◌else◌, Option, Some, None, Result, Ok, Err, List, [], ◌∷◌, length, drop, slice_index}
 use Rattle.byteorder.specs.Endian.{little_number, twos_complement}
 use Rattle.ntfs_defs.specs.declared.runs.WrittenRun.{WrittenRun}
 use Rattle.ntfs_defs.specs.declared.runs.RunDamage.{RunDamage}

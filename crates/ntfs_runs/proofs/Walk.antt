@@ -1,5 +1,5 @@
 -- The walk over the runs of a run list.
-use Rattle.std.proofs.Common.{◌≡◌, ℕ, ◌+◌, ◌^◌, ◌≤◌, ◌<◌, Option, Some, None, IfSome, Result, Ok, Err, List, [], ◌∷◌, ◌++◌, length, refl, arith, ap, sym, ◌∙◌, subst}
+use Rattle.std.proofs.Common.{◌≡◌, ℕ, ◌+◌, ◌^◌, ◌≤◌, Option, Some, None, IfSome, Result, Ok, Err, List, [], ◌∷◌, ◌++◌, refl, arith, subst}
 use Rattle.std.specs.Prelude.{unwrap_or}
 use Rattle.ntfs_defs.specs.declared.runs.Run.{Run}
 use Rattle.ntfs_defs.specs.declared.runs.WrittenRun.{WrittenRun}
@@ -8,7 +8,7 @@ use Rattle.ntfs_defs.specs.declared.runs.RunDamage.TheVariants.{TooLong, Short, 
 use Rattle.ntfs_defs.specs.WrittenRuns.{run_at}
 use Rattle.ntfs_defs.specs.DecodedRuns.{base_after, checked_run}
 use Rattle.ntfs_defs.specs.ListLaws.{IsDecodedTo, decoding_starts, decoding_goes_on}
-use Rattle.ntfs_defs.specs.RunLaws.{checked_run-ok, IsCheckedRun}
+use Rattle.ntfs_defs.specs.RunLaws.{checked_run-ok}
 use Rattle.ntfs_runs.specs.Faults.{fault_of, IsFaultOf}
 
 -- what the loop keeps: its runs, and those from its place on, are all, and its numbers are within their limits

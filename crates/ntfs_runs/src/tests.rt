@@ -85,6 +85,13 @@ fn limits_are_met(rt: HostRuntime) -> Result<(), Fail> {
 }
 
 #[test]
+fn runs_are_kept_in_order(rt: HostRuntime) -> Result<(), Fail> {
+    let runs = Runs::from_vec(vec![in rt.alloc(); run(2, 5), hole(3)]?);
+    assert_eq!(rt; runs.items(), [run(2, 5), hole(3)].as_slice());
+    Ok(())
+}
+
+#[test]
 fn damage_is_told(rt: HostRuntime) {
     let lists = [
         (

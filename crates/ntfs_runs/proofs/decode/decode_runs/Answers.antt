@@ -1,4 +1,4 @@
-use Rattle.std.proofs.Common.{◌+◌, Ok, arith, ap, sym, ◌∙◌}
+use Rattle.std.proofs.Common.{Ok, arith, ap, sym, ◌∙◌}
 use Rattle.std.proofs.lemmas.Result.{err_from_is_err_and}
 use Rattle.ntfs_defs.specs.DecodedRuns.{decoded_runs}
 use Rattle.ntfs_defs.specs.ListLaws.{run_at-next, run_at-inside, decoding_stops, decoding_refuses, decoding_ends}
