@@ -39,11 +39,12 @@ cluster bytes v = cluster_from (pos 0) (run_list bytes).runs v
 abbrev pub virtual_clusters : List ℕ → ℕ
 virtual_clusters bytes = sum_by (λ run. run.len) (run_list bytes).runs
 
--- virtual cluster v of a list of runs
+-- cluster v of a run that begins at a cluster, or of a hole
 abbrev pub cluster_in_run : Option ℕ → ℕ → VirtualCluster
 cluster_in_run None v = Hole
 cluster_in_run (Some first) v = Stored (first + v)
 
+-- virtual cluster v of a list of runs: none behind their end
 abbrev pub cluster_in : List Run → ℕ → Option VirtualCluster
 cluster_in [] v = None
 cluster_in (run ∷ runs) v = if nat_lt v run.len then Some (cluster_in_run run.cluster v) else cluster_in runs (v - run.len)

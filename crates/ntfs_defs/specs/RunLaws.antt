@@ -2,14 +2,14 @@
 use Rattle.std.specs.Prelude.{◌≡◌, ℕ, ◌+◌, ◌-◌, ◌<◌, ◌≤◌, ◌^◌, ◌==◌, ◌↔◌, ℤ, pos, negsuc, ◌+ℤ◌, Bool, true, false, nat_lt, if◌then◌else◌, Option, Some, None, IfSome, Result, Ok, Err, List, [], ◌∷◌, ◌++◌, sum_by, All, refl}
 use Rattle.std.proofs.Common.{ap, sym, ◌∙◌, arith, subst}
 use Rattle.std.proofs.lemmas.Bool.Decides.{nat_tests}
-use Rattle.std.proofs.lemmas.List.Elements.{All-cons, All-nil}
+use Rattle.std.proofs.lemmas.List.Elements.{All-cons, All-head, All-nil, All-tail}
 use Rattle.std.proofs.lemmas.List.Sums.{sum_by-cons}
 use Rattle.ntfs_defs.specs.declared.runs.Run.{Run}
 use Rattle.ntfs_defs.specs.declared.runs.WrittenRun.{WrittenRun}
 use Rattle.ntfs_defs.specs.declared.runs.RunDamage.{RunDamage}
 use Rattle.ntfs_defs.specs.declared.runs.RunDamage.TheVariants.{TooLong, ZeroRun, Outside}
 use Rattle.ntfs_defs.specs.WrittenRuns.{run_list}
-use Rattle.ntfs_defs.specs.Clusters.{VirtualCluster, stored, cluster_of_run, base_behind, cluster_from, cluster, virtual_clusters, cluster_in_run, cluster_in}
+use Rattle.ntfs_defs.specs.Clusters.{Stored, VirtualCluster, stored, cluster_of_run, base_behind, cluster_from, cluster, virtual_clusters, cluster_in_run, cluster_in}
 use Rattle.ntfs_defs.specs.DecodedRuns.{cluster_of_number, begin_of, run_from, run_by, checked_run, base_after, behind_runs, followed_by, runs_behind, decoded_runs}
 
 -- a test that a value passed
@@ -186,3 +186,30 @@ decoded_none_empty clusters bytes runs found = (decoded_runs-ok clusters bytes r
 pub decoded_all_inside : (clusters : ℕ) (bytes : List ℕ) (runs : List Run) → decoded_runs clusters bytes ≡ Ok runs
     → All (λ run. IfSome run.cluster (λ first. first + run.len ≤ clusters)) runs
 decoded_all_inside clusters bytes runs found = (decoded_runs-ok clusters bytes runs found).all_inside
+
+-- what they are stored in is a cluster of the volume
+run_inside : (clusters len v number : ℕ) (first : Option ℕ) → v < len → IfSome first (λ first. first + len ≤ clusters)
+    → Some (cluster_in_run first v) ≡ Some (Stored number) → number < clusters
+run_inside clusters len v number None below inside is = absurd (cc)
+run_inside clusters len v number (Some first) below inside is =
+    let place : first + v ≡ number = cc in
+    omega arith
+
+stored_inside : (clusters : ℕ) (runs : List Run) (v number : ℕ) → All (λ run. IfSome run.cluster (λ first. first + run.len ≤ clusters)) runs
+    → cluster_in runs v ≡ Some (Stored number) → number < clusters
+stored_inside clusters [] v number inside is = absurd (cc)
+stored_inside clusters (run ∷ runs) v number inside is =
+    here (λ behind. stored_inside clusters runs (v - run.len) number (All-tail (λ run. IfSome run.cluster (λ first. first + run.len ≤ clusters)) run runs inside) behind)
+    (nat_lt v run.len) refl is
+  where
+    here : (cluster_in runs (v - run.len) ≡ Some (Stored number) → number < clusters) → (below : Bool) → nat_lt v run.len ≡ below
+        → (if below then Some (cluster_in_run run.cluster v) else cluster_in runs (v - run.len)) ≡ Some (Stored number) → number < clusters
+    here behind true test found =
+        run_inside clusters run.len v number run.cluster (grind (arith, nat_tests, test))
+        (All-head (λ run. IfSome run.cluster (λ first. first + run.len ≤ clusters)) run runs inside) found
+    here behind false test found = behind found
+
+pub decoded_stored_inside : (clusters : ℕ) (bytes : List ℕ) (runs : List Run) → decoded_runs clusters bytes ≡ Ok runs
+    → (v number : ℕ) → cluster bytes v ≡ Some (Stored number) → number < clusters
+decoded_stored_inside clusters bytes runs found v number is =
+    stored_inside clusters runs v number (decoded_all_inside clusters bytes runs found) (decoded_clusters clusters bytes runs found v ∙ is)

@@ -1,6 +1,6 @@
 //! Laws of run lists.
-ghost use Rattle.std.specs.Prelude.{◌≡◌, ◌≤◌, ◌↔◌, ℕ, IsOk, List, [], sum_by};
-ghost use Rattle.ntfs_defs.specs.Clusters.{cluster, cluster_in, virtual_clusters};
+ghost use Rattle.std.specs.Prelude.{◌≡◌, ◌<◌, ◌≤◌, ◌↔◌, ℕ, IsOk, List, [], sum_by};
+ghost use Rattle.ntfs_defs.specs.Clusters.{Stored, cluster, cluster_in, virtual_clusters};
 ghost use Rattle.ntfs_defs.specs.Damage.{AreSound, IsFirstDamage};
 ghost use Rattle.ntfs_defs.specs.DecodedRuns.{decoded_runs};
 ghost use Rattle.ntfs_defs.specs.WrittenRuns.{run_list};
@@ -26,6 +26,13 @@ pub fn runs_sum_to_the_virtual_clusters()
 pub fn nothing_stands_behind_the_end()
     ensures { (clusters : ℕ) (bytes : List ℕ) (runs : List Run) → decoded_runs clusters bytes ≡ Ok runs
         → (v : ℕ) → (cluster bytes v ≡ None) ↔ (virtual_clusters bytes ≤ v) }
+{}
+
+/// What a virtual cluster is stored in is a cluster of the volume.
+#[tactic(auto, using(crate::specs::RunLaws::decoded_stored_inside))]
+pub fn clusters_are_on_the_volume()
+    ensures { (clusters : ℕ) (bytes : List ℕ) (runs : List Run) → decoded_runs clusters bytes ≡ Ok runs
+        → (v number : ℕ) → cluster bytes v ≡ Some (Stored number) → number < clusters }
 {}
 
 /// A damage is told exactly where it is the first: each run in front of it is sound behind those in front of that one.
