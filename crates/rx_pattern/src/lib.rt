@@ -1,0 +1,12 @@
+//! The pattern language: what a pattern's text says, and which texts it matches.
+#![tactic(auto)]
+
+pub mod class;
+pub mod item;
+pub(crate) mod letters;
+pub(crate) mod matching;
+pub mod pattern;
+
+pub use class::{Class, Member, Members};
+pub use item::Item;
+pub use pattern::Pattern;
