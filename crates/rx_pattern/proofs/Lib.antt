@@ -1,2 +1,5 @@
+pub mod Closing
+pub mod ItemsOf
+pub mod MembersOf
 pub mod TextEnds
 pub mod Tries

@@ -2,11 +2,14 @@
 #![tactic(auto)]
 
 pub mod class;
+pub mod fault;
 pub mod item;
 pub(crate) mod letters;
 pub(crate) mod matching;
 pub mod pattern;
+pub(crate) mod reading;
 
 pub use class::{Class, Member, Members};
+pub use fault::{NoMemory, PatternFault};
 pub use item::Item;
 pub use pattern::Pattern;
