@@ -6,12 +6,7 @@ use Rattle.std.proofs.lemmas.Str.{encodes-chars}
 use Rattle.std.proofs.lemmas.Bool.{ne_eqb}
 use Rattle.rx_pattern.specs.declared.item.Item.{Item}
 use Rattle.rx_pattern.specs.declared.item.Item.TheVariants.{OneOf}
-use Rattle.rx_pattern.specs.Reading.{inside_of, behind_mark, is_negated, members_of, class_width, item_of, item_from, item_width, in_front, items_past, items_of, byte_len, with_place, read_pattern}
-
--- the items so far, and what the rest reads as
-abbrev pub behind_items : List Item → Result (List Item) (List ℕ) → Result (List Item) (List ℕ)
-behind_items so_far (Ok items) = Ok (so_far ++ items)
-behind_items so_far (Err unread) = Err unread
+use Rattle.rx_pattern.specs.Reading.{inside_of, behind_mark, is_negated, members_of, class_width, item_of, item_from, item_width, in_front, behind_items, items_past, items_of, byte_len, with_place, read_pattern}
 
 items_past-drop : (passed : ℕ) (cs : List ℕ) → items_past passed cs ≡ items_of (drop passed cs)
 unfolding items_past
@@ -19,7 +14,7 @@ items_past-drop zero cs = refl
 items_past-drop (suc passed) [] = refl
 items_past-drop (suc passed) (c ∷ cs) = items_past-drop passed cs
 
-items_of-first : (c : ℕ) (cs : List ℕ) → items_of (c ∷ cs) ≡ in_front (item_from c cs) (c ∷ cs) (items_of (drop (item_width c cs) cs))
+pub items_of-first : (c : ℕ) (cs : List ℕ) → items_of (c ∷ cs) ≡ in_front (item_from c cs) (c ∷ cs) (items_of (drop (item_width c cs) cs))
 unfolding items_past
 items_of-first c cs = ap (in_front (item_from c cs) (c ∷ cs)) (items_past-drop (item_width c cs) cs)
 

@@ -1,5 +1,6 @@
 -- The members of a class, one by one.
 use Rattle.std.proofs.Common.{◌≡◌, ℕ, zero, suc, Option, Some, None, drop, List, [], ◌∷◌, ◌++◌, refl, sym, ◌∙◌, ap, append_assoc}
+use Rattle.std.proofs.lemmas.Bool.{ne_eqb}
 use Rattle.rx_pattern.specs.declared.class.Member.{Member}
 use Rattle.rx_pattern.specs.declared.class.Member.TheVariants.{Single, Between}
 use Rattle.rx_pattern.specs.Reading.{range_end, member_from, member_width, members_past, members_of}
@@ -35,3 +36,27 @@ members_of-single whole so_far text first cs all begins single =
 pub members_of-end : (text : List ℕ) → text ≡ [] → members_of text ≡ []
 unfolding members_past
 members_of-end text ended = ap members_of ended
+
+-- the members of a class, step by step
+pub no_members : members_of [] ≡ []
+no_members = members_of-end [] refl
+
+pub range_member : (first last : ℕ) (inside : List ℕ) → members_of (first ∷ 45 ∷ last ∷ inside) ≡ Between first last ∷ members_of inside
+range_member first last inside = members_of-first first (45 ∷ last ∷ inside)
+
+pub last_member : (c : ℕ) → members_of (c ∷ []) ≡ Single c ∷ []
+unfolding members_past
+last_member c = refl
+
+pub last_dash : (c : ℕ) → members_of (c ∷ 45 ∷ []) ≡ Single c ∷ Single 45 ∷ []
+unfolding members_past
+last_dash c = refl
+
+no_range : (next : ℕ) (inside : List ℕ) → (next ≡ 45 → ⊥) → range_end (next ∷ inside) ≡ None
+no_range next [] other = refl
+no_range next (last ∷ inside) other = rw (ne_eqb next 45 other) refl
+
+pub single_member : (c next : ℕ) (inside : List ℕ) → (next ≡ 45 → ⊥) → members_of (c ∷ next ∷ inside) ≡ Single c ∷ members_of (next ∷ inside)
+single_member c next inside other =
+    members_of-first c (next ∷ inside)
+    ∙ ap (λ end. member_from c end ∷ members_of (drop (member_width end) (next ∷ inside))) (no_range next inside other)

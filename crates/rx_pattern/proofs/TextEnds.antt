@@ -4,7 +4,7 @@ use Rattle.std.proofs.lemmas.Bool.{ne_eqb}
 use Rattle.std.proofs.lemmas.Str.{chars-nil, encodes-chars}
 use Rattle.std.specs.Prelude.{encode_utf8_all}
 use Rattle.std.specs.Str.{chars, IsUtf8}
-use Rattle.rx_pattern.specs.Match.{is_empty}
+use Rattle.rx_pattern.specs.MatchTest.{is_empty}
 
 is_empty-encoded : (cs : List ℕ) (b : ℕ) (text : List ℕ) → encode_utf8_all cs ≡ b ∷ text → is_empty cs ≡ false
 is_empty-encoded [] b text encoded = cc

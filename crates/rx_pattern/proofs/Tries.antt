@@ -4,7 +4,8 @@ use Rattle.std.proofs.lemmas.Bool.{true≢false, false≢true, or_cases, or_left
 use Rattle.std.proofs.lemmas.List.{drop-drop}
 use Rattle.rx_pattern.specs.declared.item.Item.{Item}
 use Rattle.rx_pattern.specs.declared.item.Item.TheVariants.{Plain, AnyOne, Run, OneOf}
-use Rattle.rx_pattern.specs.Match.{is_match, some_rest, item_takes}
+use Rattle.rx_pattern.specs.Match.{item_takes}
+use Rattle.rx_pattern.specs.MatchTest.{is_match, some_rest}
 use Rattle.rx_pattern.specs.Tries.{first_takes_first, begins_with_run, nothing_left}
 
 -- two tests of which each passes where the other does
@@ -14,7 +15,7 @@ same_tests false true to from = from refl
 same_tests false false to from = refl
 
 -- a rest that passes
-some_rest-shows : (test : List ℕ → Bool) (text : List ℕ) → some_rest test text ≡ true → (skipped : ℕ) × (test (drop skipped text) ≡ true)
+pub some_rest-shows : (test : List ℕ → Bool) (text : List ℕ) → some_rest test text ≡ true → (skipped : ℕ) × (test (drop skipped text) ≡ true)
 some_rest-shows test [] some = (0, some)
 some_rest-shows test (c ∷ text) some =
     ⊎_elim
@@ -22,7 +23,7 @@ some_rest-shows test (c ∷ text) some =
     (λ behind. let found = some_rest-shows test text behind in (suc found.0, found.1))
     (or_cases (test (c ∷ text)) (some_rest test text) some)
 
-some_rest-from : (test : List ℕ → Bool) (text : List ℕ) (skipped : ℕ) → test (drop skipped text) ≡ true → some_rest test text ≡ true
+pub some_rest-from : (test : List ℕ → Bool) (text : List ℕ) (skipped : ℕ) → test (drop skipped text) ≡ true → some_rest test text ≡ true
 some_rest-from test [] zero passes = passes
 some_rest-from test [] (suc skipped) passes = passes
 some_rest-from test (c ∷ text) zero passes = or_left (test (c ∷ text)) (some_rest test text) passes

@@ -1,3 +1,4 @@
 pub mod Match
-pub mod Tries
+pub mod MatchTest
 pub mod Reading
+pub mod Tries

@@ -1,5 +1,5 @@
 -- Which texts a pattern matches. A text is the list of its characters, each by its code point.
-use Rattle.std.specs.Prelude.{◌≡◌, ℕ, Bool, true, false, not, ◌&&◌, ◌||◌, ◌==◌, nat_le, if◌then◌else◌, IsTrue, List, [], ◌∷◌, ◌++◌}
+use Rattle.std.specs.Prelude.{◌≡◌, ℕ, Bool, true, false, not, ◌&&◌, ◌==◌, nat_le, if◌then◌else◌, IsTrue, List, [], ◌∷◌, ◌++◌}
 use Rattle.std.specs.List.{list_any}
 use Rattle.rx_pattern.specs.declared.class.Member.{Member}
 use Rattle.rx_pattern.specs.declared.class.Member.TheVariants.{Single, Between}
@@ -25,29 +25,23 @@ item_takes AnyOne c = true
 item_takes Run c = false
 item_takes (OneOf class) c = class_takes class c
 
--- whether some rest of a text, the whole one and the empty one too, passes a test
-abbrev pub some_rest : (List ℕ → Bool) → List ℕ → Bool
-some_rest test [] = test []
-some_rest test (c ∷ text) = test (c ∷ text) || some_rest test text
+-- the text's first character is one that an item takes, and what is behind it is as wanted
+abbrev pub BeginsWith : Item → (List ℕ → Type 0) → List ℕ → Type 0
+BeginsWith item Later text = (c : ℕ) × (rest : List ℕ) × (text ≡ c ∷ rest) × IsTrue (item_takes item c) × Later rest
 
--- whether the text's first character passes a test, and what is behind it another one
-abbrev pub first_then : (ℕ → Bool) → (List ℕ → Bool) → List ℕ → Bool
-first_then takes later [] = false
-first_then takes later (c ∷ text) = takes c && later text
+-- the items match the whole text: none the empty one, a run any beginning of it, and another item its first character
+unfoldable pub Match : List Item → List ℕ → Type 0
+Match [] text = text ≡ []
+Match (Run ∷ items) text = (run : List ℕ) × (rest : List ℕ) × (text ≡ run ++ rest) × Match items rest
+Match (Plain plain ∷ items) text = BeginsWith (Plain plain) (Match items) text
+Match (AnyOne ∷ items) text = BeginsWith AnyOne (Match items) text
+Match (OneOf class ∷ items) text = BeginsWith (OneOf class) (Match items) text
 
--- whether the text is empty
-abbrev pub is_empty : List ℕ → Bool
-is_empty [] = true
-is_empty (c ∷ text) = false
-
--- whether an item matches the beginning of a text, and what is behind it passes a test
-abbrev pub item_then : Item → (List ℕ → Bool) → List ℕ → Bool
-item_then Run later text = some_rest later text
-item_then (Plain plain) later text = first_then (item_takes (Plain plain)) later text
-item_then AnyOne later text = first_then (item_takes AnyOne) later text
-item_then (OneOf class) later text = first_then (item_takes (OneOf class)) later text
-
--- whether the items match the whole text
-unfoldable pub is_match : List Item → List ℕ → Bool
-is_match [] = is_empty
-is_match (item ∷ items) = item_then item (is_match items)
+-- a text is split round a run: its beginning matches the items in front of the run, and its end those behind it
+pub record IsSplit (front back : List Item) (text : List ℕ) : Type 0 where
+  pub before : List ℕ
+  pub run : List ℕ
+  pub behind : List ℕ
+  pub whole : text ≡ before ++ run ++ behind
+  pub front_matches : Match front before
+  pub back_matches : Match back behind

@@ -1,6 +1,6 @@
 -- How a pattern's text reads. A text is the list of its characters, each by its code point: `*` is 42, `?` 63, `[` 91,
 -- `]` 93, `!` 33 and `-` 45.
-use Rattle.std.specs.Prelude.{◌≡◌, ℕ, zero, suc, ◌+◌, ◌-◌, Bool, true, false, ◌==◌, if◌then◌else◌, Option, Some, None, option_map, unwrap_or, Result, Ok, Err, List, [], ◌∷◌, ◌++◌, length, drop, encode_utf8_all}
+use Rattle.std.specs.Prelude.{◌≡◌, ◌≢◌, ℕ, zero, suc, ◌+◌, ◌-◌, Bool, true, false, ◌==◌, if◌then◌else◌, Option, Some, None, option_map, unwrap_or, Result, Ok, Err, List, [], ◌∷◌, ◌++◌, length, drop, encode_utf8_all}
 use Rattle.rx_pattern.specs.declared.class.Member.{Member}
 use Rattle.rx_pattern.specs.declared.class.Member.TheVariants.{Single, Between}
 use Rattle.rx_pattern.specs.declared.class.Class.{Class}
@@ -73,11 +73,22 @@ item_from c cs = if c == 91 then option_map OneOf (class_of cs) else Some (item_
 abbrev pub item_width : ℕ → List ℕ → ℕ
 item_width c cs = if c == 91 then class_width cs else 0
 
+-- a character that stands for itself: no `*`, `?` or `[`
+pub record IsOrdinary (c : ℕ) : Type 0 where
+  pub no_star : c ≢ 42
+  pub no_question : c ≢ 63
+  pub no_bracket : c ≢ 91
+
 -- an item in front of those that the rest reads as; without an item the text itself is what doesn't read
 abbrev pub in_front : Option Item → List ℕ → Result (List Item) (List ℕ) → Result (List Item) (List ℕ)
 in_front None text items = Err text
 in_front (Some item) text (Err unread) = Err unread
 in_front (Some item) text (Ok items) = Ok (item ∷ items)
+
+-- what a text reads as whose beginning reads as some items, and whose rest reads so
+abbrev pub behind_items : List Item → Result (List Item) (List ℕ) → Result (List Item) (List ℕ)
+behind_items front (Ok items) = Ok (front ++ items)
+behind_items front (Err unread) = Err unread
 
 -- the items of a text, the first `passed` characters of which belong to an item in front of them
 unfoldable pub items_past : ℕ → List ℕ → Result (List Item) (List ℕ)
@@ -89,6 +100,16 @@ items_past zero (c ∷ cs) = in_front (item_from c cs) (c ∷ cs) (items_past (i
 -- closed
 abbrev pub items_of : List ℕ → Result (List Item) (List ℕ)
 items_of text = items_past 0 text
+
+-- a `[` that isn't closed, with what follows it; in front of it the text reads, so that each `[` there is closed
+pub record IsFirstOpen (text unread : List ℕ) : Type 0 where
+  pub before : List ℕ
+  pub items : List Item
+  pub behind : List ℕ
+  pub whole : text ≡ before ++ unread
+  pub closed : items_of before ≡ Ok items
+  pub bracket : unread ≡ 91 ∷ behind
+  pub is_open : class_of behind ≡ None
 
 -- the bytes of a text
 abbrev pub byte_len : List ℕ → ℕ

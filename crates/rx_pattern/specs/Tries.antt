@@ -2,7 +2,8 @@
 use Rattle.std.specs.Prelude.{ℕ, Bool, true, false, List, [], ◌∷◌}
 use Rattle.rx_pattern.specs.declared.item.Item.{Item}
 use Rattle.rx_pattern.specs.declared.item.Item.TheVariants.{Plain, AnyOne, Run, OneOf}
-use Rattle.rx_pattern.specs.Match.{item_takes, is_empty}
+use Rattle.rx_pattern.specs.Match.{item_takes}
+use Rattle.rx_pattern.specs.MatchTest.{is_empty}
 
 -- whether there are a first item and a first character, and the one takes the other
 abbrev pub first_takes_first : List Item → List ℕ → Bool

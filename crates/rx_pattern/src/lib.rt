@@ -4,6 +4,7 @@
 pub mod class;
 pub mod fault;
 pub mod item;
+pub mod laws;
 pub(crate) mod letters;
 pub(crate) mod matching;
 pub mod pattern;

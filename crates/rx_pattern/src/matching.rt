@@ -1,7 +1,7 @@
 //! Whether a pattern's items match a text.
 ghost use Rattle.std.specs.Prelude.{◌≡◌, ◌<◌, true, false, drop, length, MatchOption};
 ghost use Rattle.std.specs.Str.{chars};
-ghost use Rattle.rx_pattern.specs.Match.{is_match, some_rest};
+ghost use Rattle.rx_pattern.specs.MatchTest.{is_match, some_rest};
 ghost use Rattle.rx_pattern.specs.Tries.{first_takes_first, begins_with_run, nothing_left};
 
 use crate::item::Item;

@@ -1,7 +1,8 @@
 //! Patterns.
-ghost use Rattle.std.specs.Prelude.{◌≡◌, ℕ, IfOk};
+ghost use Rattle.std.specs.Prelude.{◌≡◌, ◌↔◌, ℕ, IfOk, IsTrue};
 ghost use Rattle.std.specs.Str.{chars};
-ghost use Rattle.rx_pattern.specs.Match.{is_match};
+ghost use Rattle.rx_pattern.specs.Match.{Match};
+ghost use Rattle.rx_pattern.specs.MatchTest.{is_match};
 ghost use Rattle.rx_pattern.specs.Reading.{read_pattern};
 
 use crate::class::Class;
@@ -55,6 +56,7 @@ impl Pattern {
 
     /// Whether it matches the whole text.
     pub fn matches(&self, text: &str) -> bool
+        ensures relation { IsTrue result ↔ Match self.now (chars text.now) }
         ensures test { result ≡ is_match self.now (chars text.now) }
     {
         matches_whole(self.items.as_slice(), text)

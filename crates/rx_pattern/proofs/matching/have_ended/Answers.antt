@@ -2,7 +2,7 @@ use Rattle.std.proofs.Common.{◌≡◌, ◌==◌, ℕ, Bool, true, List, [], �
 use Rattle.std.proofs.lemmas.Bool.{eqb-true}
 use Rattle.std.specs.Str.{chars}
 use Rattle.rx_pattern.specs.declared.item.Item.{Item}
-use Rattle.rx_pattern.specs.Match.{is_empty}
+use Rattle.rx_pattern.specs.MatchTest.{is_empty}
 use Rattle.rx_pattern.specs.Tries.{nothing_left}
 use Rattle.rx_pattern.proofs.TextEnds.{is_empty-chars}
 use Rattle.rx_pattern.proofs.matching.have_ended.Goals as goal

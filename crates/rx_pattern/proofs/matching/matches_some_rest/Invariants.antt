@@ -2,7 +2,7 @@ use Rattle.std.proofs.Common.{◌≡◌, ℕ, ◌+◌, ◌*◌, ◌≤◌, true,
 use denote.Text.{Utf8}
 use denote.Shadow.{shadow}
 use Rattle.std.specs.Str.{chars}
-use Rattle.rx_pattern.specs.Match.{is_match, some_rest}
+use Rattle.rx_pattern.specs.MatchTest.{is_match, some_rest}
 use Rattle.rx_pattern.proofs.Tries.{IsTried}
 use Rattle.rx_pattern.proofs.matching.matches_some_rest.Given as goal
 

@@ -2,7 +2,7 @@ use Rattle.std.proofs.Common.{◌≡◌, length}
 use denote.Text.{Utf8}
 use denote.Shadow.{shadow}
 use Rattle.std.specs.Str.{chars}
-use Rattle.rx_pattern.specs.Match.{is_match}
+use Rattle.rx_pattern.specs.MatchTest.{is_match}
 use Rattle.rx_pattern.proofs.matching.matches_whole.Given as goal
 
 -- what is left of the text matches what is left of the items exactly where the whole text matches all of them

@@ -2,8 +2,7 @@ use Rattle.std.proofs.Common.{◌≡◌, ◌≤◌, length}
 use denote.Text.{Utf8}
 use denote.Shadow.{shadow}
 use Rattle.std.specs.Str.{chars}
-use Rattle.rx_pattern.specs.Reading.{items_of}
-use Rattle.rx_pattern.proofs.ItemsOf.{behind_items}
+use Rattle.rx_pattern.specs.Reading.{behind_items, items_of}
 use Rattle.rx_pattern.proofs.pattern.Pattern.read.Given as goal
 
 abbrev pub invariant-loop-c : goal.invariant-loop-c
