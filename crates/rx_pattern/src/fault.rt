@@ -7,7 +7,7 @@ use thiserror::Error;
 pub type NoMemory = AllocError;
 
 /// Why a pattern's text doesn't read.
-#[derive(Debug, Drop, Error)]
+#[derive(Clone, Copy, Debug, PartialEq, Eq, Error)]
 pub enum PatternFault {
     /// A `[` isn't closed: the first such one begins at this byte.
     #[error("the class that begins at byte {at} isn't closed")]

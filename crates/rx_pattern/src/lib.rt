@@ -9,6 +9,8 @@ pub(crate) mod letters;
 pub(crate) mod matching;
 pub mod pattern;
 pub(crate) mod reading;
+#[cfg(test)]
+mod tests;
 
 pub use class::{Class, Member, Members};
 pub use fault::{NoMemory, PatternFault};
