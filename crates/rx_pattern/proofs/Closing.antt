@@ -1,5 +1,5 @@
 -- Where a class closes.
-use Rattle.std.proofs.Common.{◌≡◌, ℕ, ◌+◌, ◌-◌, ◌≤◌, Bool, true, false, ◌==◌, Option, Some, None, drop, take, length, List, [], ◌∷◌, ◌++◌, refl, sym, ◌∙◌, ap, append_assoc, append-nil, length-append, subst, arith}
+use Rattle.std.proofs.Common.{◌≡◌, ℕ, ◌+◌, ◌-◌, true, false, Option, Some, None, drop, take, length, List, [], ◌∷◌, ◌++◌, refl, sym, ◌∙◌, ap, append_assoc, append-nil, length-append, subst, arith}
 use Rattle.std.specs.Prelude.{encode_utf8, encode_utf8_all, option_map}
 use Rattle.std.proofs.lemmas.Str.{encodes-append, chars_from_encodes, IsCharBoundary-at_seam}
 use Rattle.std.proofs.lemmas.Bool.{ne_eqb}

@@ -1,12 +1,12 @@
 -- The test decides whether a pattern matches.
-use Rattle.std.proofs.Common.{◌≡◌, ℕ, Bool, true, false, take, drop, length, List, [], ◌∷◌, ◌++◌, ◌↔◌, refl, sym, ◌∙◌, ap}
+use Rattle.std.proofs.Common.{◌≡◌, ℕ, Bool, true, take, drop, length, List, [], ◌∷◌, ◌↔◌, refl, sym, ◌∙◌, ap}
 use Rattle.std.specs.Prelude.{IsTrue}
 use Rattle.std.proofs.lemmas.Bool.{false≢true, and_parts, and_from}
 use Rattle.std.proofs.lemmas.List.{take-append-drop, drop_at}
 use Rattle.rx_pattern.specs.declared.item.Item.{Item}
 use Rattle.rx_pattern.specs.declared.item.Item.TheVariants.{Plain, AnyOne, Run, OneOf}
 use Rattle.rx_pattern.specs.Match.{item_takes, BeginsWith, Match}
-use Rattle.rx_pattern.specs.MatchTest.{is_match, some_rest, first_then}
+use Rattle.rx_pattern.specs.MatchTest.{is_match, first_then}
 use Rattle.rx_pattern.proofs.Tries.{some_rest-shows, some_rest-from}
 
 begins-shown : (item : Item) (items : List Item) (text : List ℕ) → ((rest : List ℕ) → is_match items rest ≡ true → Match items rest)

@@ -1,12 +1,11 @@
 -- The items of a pattern's text, one by one.
-use Rattle.std.proofs.Common.{◌≡◌, ℕ, zero, suc, ◌-◌, Bool, true, false, Option, Some, None, Result, Ok, Err, drop, length, List, [], ◌∷◌, ◌++◌, refl, sym, ◌∙◌, ap, append_assoc, append-nil}
-use Rattle.std.specs.Prelude.{encode_utf8_all}
+use Rattle.std.proofs.Common.{◌≡◌, ℕ, zero, suc, ◌-◌, Bool, Some, None, Result, Ok, Err, drop, length, List, [], ◌∷◌, ◌++◌, refl, sym, ◌∙◌, ap, append_assoc, append-nil}
 use Rattle.std.specs.Str.{chars, IsUtf8}
 use Rattle.std.proofs.lemmas.Str.{encodes-chars}
 use Rattle.std.proofs.lemmas.Bool.{ne_eqb}
 use Rattle.rx_pattern.specs.declared.item.Item.{Item}
 use Rattle.rx_pattern.specs.declared.item.Item.TheVariants.{OneOf}
-use Rattle.rx_pattern.specs.Reading.{inside_of, behind_mark, is_negated, members_of, class_width, item_of, item_from, item_width, in_front, behind_items, items_past, items_of, byte_len, with_place, read_pattern}
+use Rattle.rx_pattern.specs.Reading.{inside_of, behind_mark, is_negated, members_of, class_width, item_of, item_from, item_width, in_front, behind_items, items_past, items_of, with_place, read_pattern}
 
 items_past-drop : (passed : ℕ) (cs : List ℕ) → items_past passed cs ≡ items_of (drop passed cs)
 unfolding items_past

@@ -1,9 +1,8 @@
 -- What the definitions say of some patterns, worked out by hand.
-use Rattle.std.specs.Prelude.{◌≡◌, Bool, true, false, Result, Ok, Err, List, [], ◌∷◌, codes, refl}
+use Rattle.std.specs.Prelude.{◌≡◌, true, false, Ok, Err, [], ◌∷◌, codes, refl}
 use lib.Utf8.{encode}
 use Rattle.rx_pattern.specs.declared.class.Member.TheVariants.{Single, Between}
-use Rattle.rx_pattern.specs.declared.item.Item.{Item}
-use Rattle.rx_pattern.specs.declared.item.Item.TheVariants.{Plain, AnyOne, Run, OneOf}
+use Rattle.rx_pattern.specs.declared.item.Item.TheVariants.{Plain, Run, OneOf}
 use Rattle.rx_pattern.specs.Match.{item_takes}
 use Rattle.rx_pattern.specs.MatchTest.{is_match}
 use Rattle.rx_pattern.specs.Reading.{read_pattern, items_past, members_past, before_closing}

@@ -1,7 +1,7 @@
-use Rattle.std.proofs.Common.{rules, arith, ◌≡◌, ◌≤◌, false, true, length, sym, ◌∙◌}
+use Rattle.std.proofs.Common.{rules, arith, ◌≤◌, length, sym, ◌∙◌}
 use Rattle.std.specs.Str.{chars}
-use Rattle.rx_pattern.specs.MatchTest.{is_match, some_rest}
-use Rattle.rx_pattern.proofs.Tries.{IsTried, IsTried-start, IsTried-taken, IsTried-fails, IsTried-ended, some_rest-run, some_rest-next, some_rest-last}
+use Rattle.rx_pattern.specs.MatchTest.{is_match}
+use Rattle.rx_pattern.proofs.Tries.{IsTried-start, IsTried-taken, IsTried-fails, IsTried-ended, some_rest-run, some_rest-next, some_rest-last}
 use Rattle.rx_pattern.proofs.matching.matches_some_rest.Goals as goal
 
 pub loop-later-preserved-in-Some : goal.loop-later-preserved-in-Some

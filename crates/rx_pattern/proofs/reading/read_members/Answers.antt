@@ -1,4 +1,4 @@
-use Rattle.std.proofs.Common.{rules, ◌≡◌, ◌++◌, sym, ◌∙◌, ap, append-nil}
+use Rattle.std.proofs.Common.{rules, ◌++◌, sym, ◌∙◌, ap, append-nil}
 use Rattle.std.specs.Str.{chars}
 use Rattle.rx_pattern.specs.Reading.{members_of}
 use Rattle.rx_pattern.proofs.MembersOf.{members_of-range, members_of-single, members_of-end}

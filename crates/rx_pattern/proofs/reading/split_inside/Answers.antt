@@ -1,4 +1,4 @@
-use Rattle.std.proofs.Common.{rules, arith, ◌≡◌, ◌-◌, ◌∷◌, ◌++◌, take, sym, ◌∙◌, ap, Some}
+use Rattle.std.proofs.Common.{rules, arith, ◌∷◌, ◌++◌, take, ◌∙◌, ap, Some}
 use Rattle.std.specs.Str.{chars}
 use Rattle.rx_pattern.proofs.Closing.{IsInside-first, IsInside-more, IsInside-front, inside_of-closed, inside_of-unclosed}
 use Rattle.rx_pattern.proofs.reading.split_inside.Goals as goal

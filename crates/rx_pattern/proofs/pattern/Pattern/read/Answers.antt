@@ -1,4 +1,4 @@
-use Rattle.std.proofs.Common.{rules, arith, ◌≡◌, ◌-◌, ◌∷◌, ◌++◌, length, sym, ◌∙◌, ap, Err}
+use Rattle.std.proofs.Common.{rules, arith, ◌≡◌, ◌-◌, ◌∷◌, length, ◌∙◌, ap, Err}
 use Rattle.std.specs.Str.{chars}
 use Rattle.rx_pattern.specs.Reading.{items_of}
 use Rattle.rx_pattern.proofs.ItemsOf.{items_of-plain, items_of-class, read_pattern-unclosed, read_pattern-ended}
