@@ -1,6 +1,7 @@
 -- Laws of reading.
-use Rattle.std.proofs.Common.{◌≡◌, ◌≢◌, ℕ, zero, suc, ◌≤◌, Bool, true, false, Option, Some, None, Result, Ok, Err, drop, length, List, [], ◌∷◌, ◌++◌, ◌⊎◌, inl, inr, if◌then◌else◌, ⊎_elim, refl, sym, ◌∙◌, ap, subst, append_assoc, length-append, arith}
-use Rattle.std.specs.Prelude.{map, option_map}
+use Rattle.std.proofs.Common.{◌+◌, ◌↔◌, ◌-◌, ◌≡◌, ◌≢◌, ℕ, zero, suc, ◌≤◌, Bool, true, false, Option, Some, None, Result, Ok, Err, drop, length, List, [], ◌∷◌, ◌++◌, ◌⊎◌, inl, inr, if◌then◌else◌, ⊎_elim, refl, sym, ◌∙◌, ap, subst, append_assoc, length-append, arith}
+use Rattle.std.specs.Prelude.{map, option_map, encode_utf8_all}
+use Rattle.std.proofs.lemmas.Str.{encodes-append}
 use Rattle.std.specs.List.{All}
 use Rattle.std.proofs.lemmas.List.{drop_at}
 use Rattle.std.proofs.lemmas.List.Elements.{All-head, All-tail, All-cons, All-nil}
@@ -8,7 +9,7 @@ use Rattle.std.proofs.lemmas.Bool.{ne_eqb, eq-eqb, cases_eq}
 use Rattle.rx_pattern.specs.declared.class.Class.{Class}
 use Rattle.rx_pattern.specs.declared.item.Item.{Item}
 use Rattle.rx_pattern.specs.declared.item.Item.TheVariants.{Plain, AnyOne, Run, OneOf}
-use Rattle.rx_pattern.specs.Reading.{IsOrdinary, members_of, before_closing, inside_of, is_negated, behind_mark, class_of, class_width, item_of, item_from, item_width, in_front, behind_items, items_past, items_of, IsFirstOpen}
+use Rattle.rx_pattern.specs.Reading.{IsOrdinary, members_of, before_closing, inside_of, is_negated, behind_mark, class_of, class_width, item_of, item_from, item_width, in_front, behind_items, items_past, items_of, byte_len, with_place, read_pattern, IsFirstOpen}
 use Rattle.rx_pattern.proofs.ItemsOf.{items_of-first, items_of-class}
 use Rattle.rx_pattern.proofs.Closing.{inside_of-plain, inside_of-negated, class_width-plain, class_width-negated}
 
@@ -220,8 +221,18 @@ item_missing c cs missing =
     (λ other. let some : Some (item_of c) ≡ None = rw (ne_eqb c 91 other) at missing in cc)
     (cases_eq c 91)
 
+-- a text reads up to a `[` that isn't closed, and what is from there on
+record ReadsUpTo (text unread : List ℕ) : Type 0 where
+  before : List ℕ
+  items : List Item
+  behind : List ℕ
+  whole : text ≡ before ++ unread
+  closed : items_of before ≡ Ok items
+  bracket : unread ≡ 91 ∷ behind
+  is_open : class_of behind ≡ None
+
 -- a class that stays open is the first one
-first_open : (passed : ℕ) (text unread : List ℕ) → items_past passed text ≡ Err unread → IsFirstOpen (drop passed text) unread
+first_open : (passed : ℕ) (text unread : List ℕ) → items_past passed text ≡ Err unread → ReadsUpTo (drop passed text) unread
 unfolding items_past
 first_open zero [] unread stops = cc
 first_open (suc passed) [] unread stops = cc
@@ -260,8 +271,41 @@ first_open zero (c ∷ text) unread stops =
     })
     (in_front-err (item_from c text) (c ∷ text) (items_past (item_width c text) text) unread stops)
 
-pub open_class_is_first : (text unread : List ℕ) → items_of text ≡ Err unread → IsFirstOpen text unread
-open_class_is_first text unread stops = first_open 0 text unread stops
+byte_len-append : (before unread : List ℕ) → byte_len (before ++ unread) - byte_len unread ≡ byte_len before
+byte_len-append before unread =
+    let bytes : byte_len (before ++ unread) ≡ byte_len before + byte_len unread =
+    ap length (encodes-append before unread) ∙ length-append (encode_utf8_all before) (encode_utf8_all unread) in
+    omega arith
+
+-- the byte that is told is that of the first `[` that isn't closed
+told_first : (text : List ℕ) (at : ℕ) (reading : Result (List Item) (List ℕ)) → items_of text ≡ reading → with_place text reading ≡ Err at → IsFirstOpen text at
+told_first text at (Ok items) reads told = cc
+told_first text at (Err unread) reads told =
+    let found = first_open 0 text unread reads in
+    let place : byte_len text - byte_len unread ≡ at = cc in
+    record {
+      before = found.before;
+      items = found.items;
+      behind = found.behind;
+      whole = found.whole ∙ ap (λ rest. found.before ++ rest) found.bracket;
+      place = sym place ∙ ap (λ text. byte_len text - byte_len unread) found.whole ∙ byte_len-append found.before unread;
+      closed = found.closed;
+      is_open = found.is_open;
+    }
+
+open_class_stops : (behind : List ℕ) → class_of behind ≡ None → items_of (91 ∷ behind) ≡ Err (91 ∷ behind)
+open_class_stops behind is_open = items_of-first 91 behind ∙ rw is_open refl
+
+first_told : (text : List ℕ) (at : ℕ) → IsFirstOpen text at → read_pattern text ≡ Err at
+first_told text at first =
+    let unread : List ℕ = 91 ∷ first.behind in
+    let stops : items_of text ≡ Err unread =
+    ap items_of first.whole ∙ front_reads first.before unread first.items first.closed ∙ ap (behind_items first.items) (open_class_stops first.behind first.is_open) in
+    ap (with_place text) stops
+    ∙ ap Err (ap (λ text. byte_len text - byte_len unread) first.whole ∙ byte_len-append first.before unread ∙ sym first.place)
+
+pub first_open_is_told : (text : List ℕ) (at : ℕ) → (read_pattern text ≡ Err at) ↔ IsFirstOpen text at
+first_open_is_told text at = (λ told. told_first text at (items_of text) refl told, first_told text at)
 
 in_front-behind : (item : Item) (text : List ℕ) (rest : Result (List Item) (List ℕ)) → in_front (Some item) text rest ≡ behind_items (item ∷ []) rest
 in_front-behind item text (Ok items) = refl

@@ -101,16 +101,6 @@ items_past zero (c ∷ cs) = in_front (item_from c cs) (c ∷ cs) (items_past (i
 abbrev pub items_of : List ℕ → Result (List Item) (List ℕ)
 items_of text = items_past 0 text
 
--- a `[` that isn't closed, with what follows it; in front of it the text reads, so that each `[` there is closed
-pub record IsFirstOpen (text unread : List ℕ) : Type 0 where
-  pub before : List ℕ
-  pub items : List Item
-  pub behind : List ℕ
-  pub whole : text ≡ before ++ unread
-  pub closed : items_of before ≡ Ok items
-  pub bracket : unread ≡ 91 ∷ behind
-  pub is_open : class_of behind ≡ None
-
 -- the bytes of a text
 abbrev pub byte_len : List ℕ → ℕ
 byte_len text = length (encode_utf8_all text)
@@ -123,3 +113,13 @@ with_place text (Err unread) = Err (byte_len text - byte_len unread)
 -- the items of a pattern's text, or the byte of the first `[` that isn't closed
 abbrev pub read_pattern : List ℕ → Result (List Item) ℕ
 read_pattern text = with_place text (items_of text)
+
+-- a `[` that isn't closed begins at a byte; in front of it the text reads, so that each `[` there is closed
+pub record IsFirstOpen (text : List ℕ) (at : ℕ) : Type 0 where
+  pub before : List ℕ
+  pub items : List Item
+  pub behind : List ℕ
+  pub whole : text ≡ before ++ 91 ∷ behind
+  pub place : at ≡ byte_len before
+  pub closed : items_of before ≡ Ok items
+  pub is_open : class_of behind ≡ None

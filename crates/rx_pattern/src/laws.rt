@@ -2,7 +2,7 @@
 ghost use Rattle.std.specs.Prelude.{◌≡◌, ◌≢◌, ◌↔◌, ◌++◌, ◌∷◌, [], ℕ, All, Err, IsTrue, List, None, Ok, Some, false, map, true};
 ghost use Rattle.rx_pattern.specs.Match.{Match, IsSplit};
 ghost use Rattle.rx_pattern.specs.MatchTest.{is_match};
-ghost use Rattle.rx_pattern.specs.Reading.{IsOrdinary, IsFirstOpen, behind_items, inside_of, items_of, members_of};
+ghost use Rattle.rx_pattern.specs.Reading.{IsOrdinary, IsFirstOpen, behind_items, inside_of, items_of, members_of, read_pattern};
 ghost use Rattle.rx_pattern.specs.declared.class.Member.TheVariants.{Single, Between};
 ghost use Rattle.rx_pattern.specs.declared.item.Item.{Item};
 ghost use Rattle.rx_pattern.specs.declared.item.Item.TheVariants.{Plain, AnyOne, Run, OneOf};
@@ -48,9 +48,9 @@ pub fn a_front_that_reads_stays()
         → items_of (text ++ more) ≡ behind_items front (items_of more) }
 {}
 
-/// What doesn't read begins with a `[` that isn't closed, and in front of it each `[` is.
+/// A text doesn't read exactly where it has a `[` that isn't closed, and the byte that is told is that of the first one.
 pub fn the_first_open_class_is_told()
-    ensures { (text unread : List ℕ) → items_of text ≡ Err unread → IsFirstOpen text unread }
+    ensures { (text : List ℕ) (at : ℕ) → (read_pattern text ≡ Err at) ↔ IsFirstOpen text at }
 {}
 
 /// The test of matching decides the relation.
