@@ -1,0 +1,5 @@
+pub mod Spelling
+pub mod Items
+pub mod Texts
+pub mod Rows
+pub mod SpellingLaws
