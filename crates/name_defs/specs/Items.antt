@@ -1,5 +1,5 @@
 -- What a stored name holds, read from its front: characters, and what is none.
-use Rattle.std.specs.Prelude.{ℕ, zero, suc, ◌+◌, ◌-◌, ◌&&◌, List, [], ◌∷◌, take, length, slice_index, find, Option, encode_utf8, if◌then◌else◌}
+use Rattle.std.specs.Prelude.{ℕ, zero, suc, ◌-◌, ◌&&◌, List, [], ◌∷◌, take, length, slice_index, find, Option, encode_utf8, if◌then◌else◌}
 use Rattle.std.specs.Option.{option_map_or}
 use Rattle.std.specs.Int.{is_in_range}
 use Rattle.std.specs.Str.{is_utf8, chars}

@@ -3,3 +3,7 @@ pub mod Items
 pub mod Texts
 pub mod Rows
 pub mod SpellingLaws
+pub mod WalkLaws
+pub mod ByteLaws
+pub mod UnitLaws
+pub mod OneSpelling

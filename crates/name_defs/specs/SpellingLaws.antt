@@ -1,11 +1,10 @@
 -- The spelling of an item tells the item, also with more text behind it.
-use Rattle.std.specs.Prelude.{◌≡◌, ◌≢◌, ℕ, ◌/◌, ◌%◌, ◌<◌, ◌≤◌, true, false, nat_lt, ◌==◌, List, [], ◌∷◌, ◌++◌, flat_map, ⊤, refl, if◌then◌else◌}
-use Rattle.std.proofs.Common.{ap, sym, ◌∙◌, subst, arith, append_assoc, ⊎_elim}
-use Rattle.std.proofs.lemmas.Bool.{cases_Bool, cond-true, cond-false, or_cases, eqb-true, eqb-false}
+use Rattle.std.specs.Prelude.{◌≡◌, ◌≢◌, ℕ, ◌/◌, ◌%◌, ◌<◌, ◌≤◌, true, false, nat_lt, ◌==◌, List, [], ◌∷◌, ◌++◌, length, ⊤, refl, if◌then◌else◌}
+use Rattle.std.proofs.Common.{ap, sym, ◌∙◌, arith, ⊎_elim}
+use Rattle.std.proofs.lemmas.Bool.{cases_Bool, cond-true, cond-false, eqb-true, eqb-false}
 use Rattle.std.proofs.lemmas.Bool.Decides.{nat_tests}
 use Rattle.std.specs.Int.{is_in_range}
 use Rattle.std.specs.Char.{is_ascii_control}
-use Rattle.std.specs.List.{AllByRecursion}
 use Rattle.name_defs.specs.Spelling.{hex_digit, byte_escape, unit_escape, word_spelling, name_spelling, backslash, slash, is_noncharacter}
 use Rattle.name_defs.specs.Items.{Item, Character, Byte, Surrogate}
 use Rattle.name_defs.specs.Texts.{item_spelling}
@@ -158,3 +157,14 @@ item_spelling-same x y r s p q e =
     let b = form_of y q in
     let same = form_text-same a.form b.form r s a.sound b.sound (ap (λ t. t ++ r) (sym a.spells) ∙ e ∙ ap (λ t. t ++ s) b.spells) in
     (sym a.back ∙ ap form_item same.0 ∙ b.back, same.1)
+
+-- each form has a character at least
+form_text-some : (form : Form) → 0 < length (form_text form)
+unfolding byte_escape unit_escape
+form_text-some (Plain c) = omega arith
+form_text-some Doubled = omega arith
+form_text-some (ByteForm byte) = omega arith
+form_text-some (UnitForm unit) = omega arith
+
+pub item_spelling-some : (item : Item) → IsReadable item → 0 < length (item_spelling item)
+item_spelling-some item readable = let form = form_of item readable in omega (arith, ap length form.spells, form_text-some form.form)
