@@ -6,4 +6,5 @@ pub mod SpellingLaws
 pub mod WalkLaws
 pub mod ByteLaws
 pub mod UnitLaws
+pub mod TextLaws
 pub mod OneSpelling

@@ -9,7 +9,7 @@ use Rattle.std.specs.Char.{IsScalar}
 use Rattle.std.specs.Char.Escape.{encode_utf16}
 use Rattle.std.specs.Char.Utf16.{is_high_surrogate, is_low_surrogate, surrogate_pair_char}
 use Rattle.std.specs.List.{AllByRecursion}
-use Rattle.name_defs.specs.Items.{Character, Surrogate, item_units, item_of_units, unit_items}
+use Rattle.name_defs.specs.Items.{Character, Surrogate, item_units, item_of_units, unit_items, items_past}
 use Rattle.name_defs.specs.WalkLaws.{items_past-front, items_past-restored, items_past-all, Fronts, fronts_from}
 use Rattle.name_defs.specs.SpellingLaws.{IsReadable}
 
@@ -34,7 +34,7 @@ unfolding item_of_units
 item_of_character units alone is = cond-false _ _ _ alone ∙ cond-false _ _ _ is
 
 -- no pair begins with a unit that is no surrogate
-alone_from : (units : List ℕ) → is_surrogate (slice_index units 0) ≡ false → begins_pair units ≡ false
+pub alone_from : (units : List ℕ) → is_surrogate (slice_index units 0) ≡ false → begins_pair units ≡ false
 alone_from units none = and_left _ _ (let low : is_high_surrogate (slice_index units 0) ≡ false = grind (arith, nat_tests) in low)
 
 one_unit : (c : ℕ) → c < 0x1_0000 → encode_utf16 c ≡ c ∷ []
@@ -110,6 +110,24 @@ pair_fronts unit (second ∷ rest) pair =
     let units = pair_units unit second both.0 both.1 in
     fronts_from item_of_units item_units IsReadable (unit ∷ second ∷ rest) rest (Character c) (item_of_pair (unit ∷ second ∷ rest) pair)
     (units_some c) (ap (λ t. t ++ rest) (sym units)) tt
+
+-- a pair in front is read as its character
+pub unit_items-pair : (first second : ℕ) (rest : List ℕ) → begins_pair (first ∷ second ∷ rest) ≡ true → unit_items (first ∷ second ∷ rest) ≡ Character (surrogate_pair_char first second) ∷ unit_items rest
+unfolding unit_items
+unit_items-pair first second rest pair =
+    let both = and_parts _ _ pair in
+    let c = surrogate_pair_char first second in
+    let units = pair_units first second both.0 both.1 in
+    let front = ap (λ t. item_of_units (t ++ rest)) units ∙ item_of_pair (first ∷ second ∷ rest) pair in
+    ap (λ t. items_past item_of_units item_units 0 (t ++ rest)) (sym units) ∙ items_past-front item_of_units item_units (Character c) rest (units_some c) front
+
+-- a unit that is no surrogate is read as its character
+pub unit_items-one : (unit : ℕ) (rest : List ℕ) → unit < 0x1_0000 → is_surrogate unit ≡ false → unit_items (unit ∷ rest) ≡ Character unit ∷ unit_items rest
+unfolding unit_items
+unit_items-one unit rest small none =
+    let units = one_unit unit small in
+    let front = ap (λ t. item_of_units (t ++ rest)) units ∙ item_of_character (unit ∷ rest) (alone_from (unit ∷ rest) none) none in
+    ap (λ t. items_past item_of_units item_units 0 (t ++ rest)) (sym units) ∙ items_past-front item_of_units item_units (Character unit) rest (units_some unit) front
 
 unit_fronts : (unit : ℕ) (rest : List ℕ) → AllByRecursion IsUnit (unit ∷ rest) → Fronts item_of_units item_units IsReadable (unit ∷ rest)
 unit_fronts unit rest all = ⊎_elim

@@ -1,0 +1,1 @@
+//! Examples with values that are worked out by hand.

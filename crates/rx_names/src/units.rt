@@ -1,0 +1,56 @@
+//! Names of units of 16 bits.
+ghost use Rattle.std.specs.Prelude.{◌≡◌, ◌≤◌, ◌++◌, [], ◌∷◌, true, length, IfOk, OnOk, string_bytes};
+ghost use Rattle.std.specs.Option.{SomeIff};
+ghost use Rattle.std.specs.Char.Utf16.{surrogate_pair_char};
+ghost use Rattle.name_defs.specs.Texts.{units_text};
+ghost use Rattle.name_defs.specs.UnitLaws.{begins_pair};
+
+use crate::characters::push_name_character;
+use crate::pushing::push_unit_escape;
+use rx_ranges::NoMemory;
+
+/// Appends a name of units as it prints.
+pub(crate) fn push_units(text: &mut String, units: &[u16]) -> Result<(), NoMemory>
+    ensures { OnOk result (string_bytes text.new ≡ string_bytes text.old ++ units_text units.now) }
+{
+    let mut rest = units;
+    while let Some((first, after)) = rest.split_first() {
+        rest = push_front(text, *first, after)?;
+    }
+    Ok(())
+}
+
+/// Appends what stands in front of units, and lends the units behind it.
+fn push_front<'a>(
+    text: &mut String,
+    first: u16,
+    after: &'a [u16],
+) -> Result<&'a [u16], NoMemory>
+    ensures text { IfOk result (λ rest.
+        string_bytes text.new ++ units_text rest.now ≡ string_bytes text.old ++ units_text (first ∷ after.now)) }
+    ensures shorter { IfOk result (λ rest. length rest.now ≤ length after.now) }
+{
+    if let Some((second, behind)) = after.split_first() {
+        if let Some(c) = pair_character(first, *second) {
+            push_name_character(text, c)?;
+            return Ok(behind);
+        }
+    }
+    match char::from_u32(u32::from(first)) {
+        Some(c) => push_name_character(text, c)?,
+        None => push_unit_escape(text, first)?,
+    }
+    Ok(after)
+}
+
+/// The character of two units, if they are a pair of surrogates.
+fn pair_character(first: u16, second: u16) -> Option<char>
+    ensures { SomeIff result (begins_pair (first ∷ second ∷ []) ≡ true) (surrogate_pair_char first second) }
+{
+    if first < 0xD800 || first >= 0xDC00 || second < 0xDC00 || second >= 0xE000 {
+        return None;
+    }
+    let high = u32::from(first) - 0xD800;
+    let low = u32::from(second) - 0xDC00;
+    char::from_u32(0x1_0000 + high * 0x400 + low)
+}
