@@ -1,9 +1,10 @@
 -- Turns of the loops that append what is read, one thing at a time.
-use Rattle.std.proofs.Common.{◌≡◌, ℕ, List, [], ◌∷◌, ◌++◌, sym, ap, ◌∙◌, append_assoc, append-nil, length}
+use Rattle.std.proofs.Common.{◌≡◌, ℕ, suc, ◌+◌, ◌<◌, List, [], ◌∷◌, ◌++◌, sym, ap, ◌∙◌, append_assoc, append-nil, length, drop, drop-cons, slice_index, arith}
 use Rattle.std.specs.List.{flat_map}
 use Rattle.std.specs.Char.{encode_utf8}
 use Rattle.std.specs.Str.{IsUtf8, chars, encode_utf8_all}
 use Rattle.std.proofs.lemmas.List.{nil_from_length}
+use Rattle.name_defs.specs.Spelling.{byte_escape}
 use Rattle.std.proofs.lemmas.Str.{chars_past_char, IsUtf8-past_char, encodes-append, chars-nil}
 
 -- the text that a spelling makes of the characters of a text
@@ -31,3 +32,14 @@ module _ (spelling : ℕ → List ℕ) where
   spelling_end made left whole so none =
       let nothing : spelled spelling left ≡ [] = ap (spelled spelling) (nil_from_length left none) ∙ ap (λ cs. encode_utf8_all (flat_map spelling cs)) chars-nil in
       sym (append-nil made) ∙ ap (λ t. made ++ t) (sym nothing) ∙ so.same
+
+-- a turn of a loop over bytes: the escape of the byte at i is appended
+pub escape_turn : (made more whole bytes : List ℕ) (i : ℕ) → i < length bytes → made ++ encode_utf8_all (flat_map byte_escape (drop i bytes)) ≡ whole
+    → more ≡ made ++ encode_utf8_all (byte_escape (slice_index bytes i)) → more ++ encode_utf8_all (flat_map byte_escape (drop (i + 1) bytes)) ≡ whole
+escape_turn made more whole bytes i less so grown =
+    let first = byte_escape (slice_index bytes i) in
+    let rest = flat_map byte_escape (drop (i + 1) bytes) in
+    let next : i + 1 ≡ suc i = omega arith in
+    let split : flat_map byte_escape (drop i bytes) ≡ first ++ rest = ap (flat_map byte_escape) (drop-cons bytes i 0 less) ∙ ap (λ n. first ++ flat_map byte_escape (drop n bytes)) (sym next) in
+    ap (λ t. t ++ encode_utf8_all rest) grown ∙ append_assoc made (encode_utf8_all first) (encode_utf8_all rest)
+    ∙ ap (λ t. made ++ t) (sym (encodes-append first rest)) ∙ ap (λ t. made ++ encode_utf8_all t) (sym split) ∙ so

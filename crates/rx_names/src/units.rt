@@ -1,5 +1,5 @@
 //! Names of units of 16 bits.
-ghost use Rattle.std.specs.Prelude.{◌≡◌, ◌≤◌, ◌++◌, [], ◌∷◌, true, length, IfOk, OnOk, string_bytes};
+ghost use Rattle.std.specs.Prelude.{◌≡◌, ◌≤◌, ◌++◌, [], ◌∷◌, true, false, length, drop, slice_index, IsNone, IsSome, IfSome, IfOk, OnOk, string_bytes};
 ghost use Rattle.std.specs.Option.{SomeIff};
 ghost use Rattle.std.specs.Char.Utf16.{surrogate_pair_char};
 ghost use Rattle.name_defs.specs.Texts.{units_text};
@@ -30,17 +30,38 @@ fn push_front<'a>(
         string_bytes text.new ++ units_text rest.now ≡ string_bytes text.old ++ units_text (first ∷ after.now)) }
     ensures shorter { IfOk result (λ rest. length rest.now ≤ length after.now) }
 {
-    if let Some((second, behind)) = after.split_first() {
-        if let Some(c) = pair_character(first, *second) {
+    match pair_in_front(first, after) {
+        Some((c, behind)) => {
             push_name_character(text, c)?;
-            return Ok(behind);
+            Ok(behind)
+        }
+        None => {
+            push_alone(text, first)?;
+            Ok(after)
         }
     }
-    match char::from_u32(u32::from(first)) {
-        Some(c) => push_name_character(text, c)?,
-        None => push_unit_escape(text, first)?,
+}
+
+/// Appends a unit that is in no pair.
+fn push_alone(text: &mut String, unit: u16) -> Result<(), NoMemory>
+    ensures { OnOk result (string_bytes text.new ≡ string_bytes text.old ++ units_text (unit ∷ [])) }
+{
+    match char::from_u32(u32::from(unit)) {
+        Some(c) => push_name_character(text, c),
+        None => push_unit_escape(text, unit),
     }
-    Ok(after)
+}
+
+/// The character of a pair of surrogates in front of units, and the units behind it.
+fn pair_in_front(first: u16, after: &[u16]) -> Option<(char, &[u16])>
+    ensures none { IsNone result → begins_pair (first ∷ after.now) ≡ false }
+    ensures pair { IsSome result → begins_pair (first ∷ after.now) ≡ true }
+    ensures character { IfSome result (λ found. found.0 ≡ surrogate_pair_char first (slice_index after.now 0)) }
+    ensures behind { IfSome result (λ found. found.1.now ≡ drop 1 after.now) }
+{
+    let (second, behind) = after.split_first()?;
+    let c = pair_character(first, *second)?;
+    Some((c, behind))
 }
 
 /// The character of two units, if they are a pair of surrogates.
