@@ -1,7 +1,7 @@
 -- The bytes of a chunk that are no text: no character begins at any of them.
-use Rattle.std.proofs.Common.{◌≡◌, ◌≢◌, ℕ, zero, suc, ◌+◌, ◌-◌, ◌<◌, ◌≤◌, Bool, true, false, List, [], ◌∷◌, ◌++◌, length, take, drop, slice_index, subst, sym, ap, ◌∙◌, refl, arith, append_assoc, append-nil, length-append, get_or-drop, ⊎_elim}
+use Rattle.std.proofs.Common.{◌≡◌, ◌≢◌, ℕ, zero, suc, ◌+◌, ◌<◌, ◌≤◌, true, false, List, [], ◌++◌, length, take, drop, slice_index, sym, ap, ◌∙◌, refl, arith, append_assoc, append-nil, length-append, get_or-drop, ⊎_elim}
 use Rattle.std.specs.Int.{is_in_range}
-use Rattle.std.specs.Char.{encode_utf8, IsScalar}
+use Rattle.std.specs.Char.{encode_utf8}
 use Rattle.std.specs.List.{flat_map}
 use Rattle.std.specs.Str.{IsUtf8, is_utf8, chars, encode_utf8_all, StartsWithNoChar}
 use Rattle.std.specs.Str.Lossy.{valid_len_up_to, utf8_valid_len, utf8_error_len, utf8_invalid_len}

@@ -5,9 +5,9 @@ ghost use Rattle.std.specs.Str.{encode_utf8_all};
 ghost use Rattle.name_defs.specs.Spelling.{byte_escape};
 ghost use Rattle.name_defs.specs.Texts.{bytes_text};
 
+use crate::NoMemory;
 use crate::characters::push_name_characters;
 use crate::pushing::push_byte_escape;
-use rx_ranges::NoMemory;
 
 /// Appends a name of bytes as it prints.
 pub(crate) fn push_bytes(text: &mut String, bytes: &[u8]) -> Result<(), NoMemory>

@@ -4,9 +4,9 @@ ghost use Rattle.std.specs.List.{flat_map};
 ghost use Rattle.std.specs.Str.{encode_utf8_all, chars};
 ghost use Rattle.name_defs.specs.Spelling.{name_spelling};
 
+use crate::NoMemory;
 use crate::pushing::push_byte_escape;
 use crate::word::push_word_character;
-use rx_ranges::NoMemory;
 
 /// Appends the characters of a text, each as in a name.
 pub(crate) fn push_name_characters(text: &mut String, characters: &str) -> Result<(), NoMemory>

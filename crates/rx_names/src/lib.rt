@@ -12,6 +12,9 @@ pub mod word;
 pub mod xml;
 
 pub use name::{NameRef, print_name};
-pub use rx_ranges::{NoMemory, Text};
+pub use rx_ranges::Text;
 pub use word::print_word;
 pub use xml::xml_text;
+
+/// There was no memory.
+pub type NoMemory = std::alloc::AllocError;

@@ -2,9 +2,10 @@
 ghost use Rattle.std.specs.Prelude.{◌≡◌, IfOk};
 ghost use Rattle.rx_names.specs.Names.{name_text};
 
+use crate::NoMemory;
 use crate::bytes::push_bytes;
 use crate::units::push_units;
-use rx_ranges::{NoMemory, Text};
+use rx_ranges::Text;
 use std::alloc::Global;
 
 /// A stored name: its bytes, or its units of 16 bits.

@@ -3,7 +3,7 @@ ghost use Rattle.std.specs.Prelude.{◌≡◌, ◌<◌, ◌++◌, OnOk, string_b
 ghost use Rattle.std.specs.Str.{encode_utf8_all};
 ghost use Rattle.name_defs.specs.Spelling.{hex_digit, byte_escape, unit_escape};
 
-use rx_ranges::NoMemory;
+use crate::NoMemory;
 
 /// Appends the characters that have these bytes as their numbers.
 fn push_ascii(text: &mut String, bytes: &[u8]) -> Result<(), NoMemory>

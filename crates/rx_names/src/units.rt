@@ -5,9 +5,9 @@ ghost use Rattle.std.specs.Char.Utf16.{surrogate_pair_char};
 ghost use Rattle.name_defs.specs.Texts.{units_text};
 ghost use Rattle.name_defs.specs.UnitLaws.{begins_pair};
 
+use crate::NoMemory;
 use crate::characters::push_name_character;
 use crate::pushing::push_unit_escape;
-use rx_ranges::NoMemory;
 
 /// Appends a name of units as it prints.
 pub(crate) fn push_units(text: &mut String, units: &[u16]) -> Result<(), NoMemory>
@@ -21,11 +21,7 @@ pub(crate) fn push_units(text: &mut String, units: &[u16]) -> Result<(), NoMemor
 }
 
 /// Appends what stands in front of units, and lends the units behind it.
-fn push_front<'a>(
-    text: &mut String,
-    first: u16,
-    after: &'a [u16],
-) -> Result<&'a [u16], NoMemory>
+fn push_front<'a>(text: &mut String, first: u16, after: &'a [u16]) -> Result<&'a [u16], NoMemory>
     ensures text { IfOk result (λ rest.
         string_bytes text.new ++ units_text rest.now ≡ string_bytes text.old ++ units_text (first ∷ after.now)) }
     ensures shorter { IfOk result (λ rest. length rest.now ≤ length after.now) }

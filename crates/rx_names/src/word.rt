@@ -4,8 +4,9 @@ ghost use Rattle.std.specs.Str.{encode_utf8_all};
 ghost use Rattle.name_defs.specs.Spelling.{word_spelling};
 ghost use Rattle.name_defs.specs.Texts.{word_text};
 
+use crate::NoMemory;
 use crate::pushing::{push_byte_escape, push_unit_escape};
-use rx_ranges::{NoMemory, Text};
+use rx_ranges::Text;
 use std::alloc::Global;
 
 /// A word with its backslashes doubled, and with escapes for control characters, U+FFFE and U+FFFF.

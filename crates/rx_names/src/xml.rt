@@ -4,7 +4,8 @@ ghost use Rattle.std.specs.Str.{encode_utf8_all};
 ghost use Rattle.name_defs.specs.Spelling.{xml_spelling};
 ghost use Rattle.name_defs.specs.Texts.{xml_text};
 
-use rx_ranges::{NoMemory, Text};
+use crate::NoMemory;
+use rx_ranges::Text;
 use std::alloc::Global;
 
 /// A text with the entities of `&`, `<`, `>` and `"`.
