@@ -9,7 +9,7 @@ use Rattle.std.specs.List.{AllByRecursion}
 use Rattle.std.specs.Str.{is_utf8, chars, encode_utf8_all, all_scalars, StartsWithNoChar}
 use Rattle.std.specs.Option.{option_map_or}
 use Rattle.std.proofs.Math.Utf8.{low_scalar}
-use Rattle.name_defs.specs.Items.{Character, Byte, item_bytes, front_len, item_of_bytes, byte_items}
+use Rattle.name_defs.specs.Items.{Item, Character, Byte, item_bytes, front_len, item_of_bytes, byte_items}
 use Rattle.name_defs.specs.WalkLaws.{items_past-front, items_past-restored, items_past-all, Fronts, fronts_from}
 use Rattle.name_defs.specs.SpellingLaws.{IsReadable}
 
@@ -143,15 +143,20 @@ no_char_high byte rest none = ⊎_elim
     (λ high. high)
     (cases_lt byte 128)
 
-byte_fronts : (byte : ℕ) (rest : List ℕ) → AllByRecursion (λ _. ⊤) (byte ∷ rest) → Fronts item_of_bytes item_bytes IsReadable (byte ∷ rest)
-byte_fronts byte rest all = ⊎_elim
+-- where P holds of characters, and of such bytes as Q tells at which no character begins
+pub byte_fronts : (Q : ℕ → Type 0) (P : Item → Type 0) → ((c : ℕ) → P (Character c)) → ((byte : ℕ) → 128 ≤ byte → Q byte → P (Byte byte))
+    → (byte : ℕ) (rest : List ℕ) → AllByRecursion Q (byte ∷ rest) → Fronts item_of_bytes item_bytes P (byte ∷ rest)
+byte_fronts Q P of_character of_byte byte rest all = ⊎_elim
     (λ begins.
-    fronts_from item_of_bytes item_bytes IsReadable (byte ∷ rest) begins.rest (Character begins.c)
-    (ap item_of_bytes begins.split ∙ item_of_bytes-encode begins.c begins.rest begins.scalar) (length_bounds begins.c).0 begins.split tt)
+    fronts_from item_of_bytes item_bytes P (byte ∷ rest) begins.rest (Character begins.c)
+    (ap item_of_bytes begins.split ∙ item_of_bytes-encode begins.c begins.rest begins.scalar) (length_bounds begins.c).0 begins.split (of_character begins.c))
     (λ none.
-    fronts_from item_of_bytes item_bytes IsReadable (byte ∷ rest) rest (Byte byte)
-    (item_of_bytes-no_char byte rest none) (omega arith) refl (no_char_high byte rest none))
+    fronts_from item_of_bytes item_bytes P (byte ∷ rest) rest (Byte byte)
+    (item_of_bytes-no_char byte rest none) (omega arith) refl (of_byte byte (no_char_high byte rest none) all.0))
     (begins_or_not (byte ∷ rest) (omega arith))
+
+readable_fronts : (byte : ℕ) (rest : List ℕ) → AllByRecursion (λ _. ⊤) (byte ∷ rest) → Fronts item_of_bytes item_bytes IsReadable (byte ∷ rest)
+readable_fronts = byte_fronts (λ _. ⊤) IsReadable (λ c. tt) (λ byte high stored. high)
 
 -- of any numbers there is nothing to show
 all_stored : (xs : List ℕ) → AllByRecursion (λ _. ⊤) xs
@@ -161,8 +166,8 @@ all_stored (x ∷ xs) = (tt, all_stored xs)
 -- the items of bytes have those bytes, and no others
 pub byte_items-restored : (bytes : List ℕ) → flat_map item_bytes (byte_items bytes) ≡ bytes
 unfolding byte_items
-byte_items-restored bytes = items_past-restored item_of_bytes item_bytes (λ _. ⊤) IsReadable byte_fronts 0 bytes (all_stored bytes)
+byte_items-restored bytes = items_past-restored item_of_bytes item_bytes (λ _. ⊤) IsReadable readable_fronts 0 bytes (all_stored bytes)
 
 pub byte_items-readable : (bytes : List ℕ) → AllByRecursion IsReadable (byte_items bytes)
 unfolding byte_items
-byte_items-readable bytes = items_past-all item_of_bytes item_bytes (λ _. ⊤) IsReadable byte_fronts 0 bytes (all_stored bytes)
+byte_items-readable bytes = items_past-all item_of_bytes item_bytes (λ _. ⊤) IsReadable readable_fronts 0 bytes (all_stored bytes)

@@ -8,3 +8,4 @@ pub mod ByteLaws
 pub mod UnitLaws
 pub mod TextLaws
 pub mod OneSpelling
+pub mod ShownLaws

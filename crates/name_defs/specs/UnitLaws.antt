@@ -9,7 +9,7 @@ use Rattle.std.specs.Char.{IsScalar}
 use Rattle.std.specs.Char.Escape.{encode_utf16}
 use Rattle.std.specs.Char.Utf16.{is_high_surrogate, is_low_surrogate, surrogate_pair_char}
 use Rattle.std.specs.List.{AllByRecursion}
-use Rattle.name_defs.specs.Items.{Character, Surrogate, item_units, item_of_units, unit_items, items_past}
+use Rattle.name_defs.specs.Items.{Item, Character, Surrogate, item_units, item_of_units, unit_items, items_past}
 use Rattle.name_defs.specs.WalkLaws.{items_past-front, items_past-restored, items_past-all, Fronts, fronts_from}
 use Rattle.name_defs.specs.SpellingLaws.{IsReadable}
 
@@ -101,16 +101,6 @@ pair_units first second high low =
     let two : 0xDC00 + (c - 0x1_0000) % 0x400 ≡ second = omega arith in
     two_units c (omega arith) ∙ ap (λ u. u ∷ (0xDC00 + (c - 0x1_0000) % 0x400) ∷ []) one ∙ ap (λ v. first ∷ v ∷ []) two
 
--- a pair in front
-pair_fronts : (unit : ℕ) (rest : List ℕ) → begins_pair (unit ∷ rest) ≡ true → Fronts item_of_units item_units IsReadable (unit ∷ rest)
-pair_fronts unit [] pair = absurd (false≢true (and_parts _ _ pair).1)
-pair_fronts unit (second ∷ rest) pair =
-    let both = and_parts _ _ pair in
-    let c = surrogate_pair_char unit second in
-    let units = pair_units unit second both.0 both.1 in
-    fronts_from item_of_units item_units IsReadable (unit ∷ second ∷ rest) rest (Character c) (item_of_pair (unit ∷ second ∷ rest) pair)
-    (units_some c) (ap (λ t. t ++ rest) (sym units)) tt
-
 -- a pair in front is read as its character
 pub unit_items-pair : (first second : ℕ) (rest : List ℕ) → begins_pair (first ∷ second ∷ rest) ≡ true → unit_items (first ∷ second ∷ rest) ≡ Character (surrogate_pair_char first second) ∷ unit_items rest
 unfolding unit_items
@@ -129,23 +119,38 @@ unit_items-one unit rest small none =
     let front = ap (λ t. item_of_units (t ++ rest)) units ∙ item_of_character (unit ∷ rest) (alone_from (unit ∷ rest) none) none in
     ap (λ t. items_past item_of_units item_units 0 (t ++ rest)) (sym units) ∙ items_past-front item_of_units item_units (Character unit) rest (units_some unit) front
 
-unit_fronts : (unit : ℕ) (rest : List ℕ) → AllByRecursion IsUnit (unit ∷ rest) → Fronts item_of_units item_units IsReadable (unit ∷ rest)
-unit_fronts unit rest all = ⊎_elim
-    (λ pair. pair_fronts unit rest pair)
-    (λ (alone : begins_pair (unit ∷ rest) ≡ false). ⊎_elim
-    (λ (is : is_surrogate unit ≡ true).
-    fronts_from item_of_units item_units IsReadable (unit ∷ rest) rest (Surrogate unit) (item_of_surrogate (unit ∷ rest) alone is) (omega arith) refl is)
-    (λ (none : is_surrogate unit ≡ false).
-    fronts_from item_of_units item_units IsReadable (unit ∷ rest) rest (Character unit) (item_of_character (unit ∷ rest) alone none)
-    (units_some unit) (ap (λ t. t ++ rest) (sym (one_unit unit all.0))) tt)
-    (cases_Bool (is_surrogate unit)))
-    (cases_Bool (begins_pair (unit ∷ rest)))
+module _ (P : Item → Type 0) (of_character : (c : ℕ) → P (Character c)) (of_surrogate : (unit : ℕ) → is_surrogate unit ≡ true → P (Surrogate unit)) where
+  -- a pair in front
+  pair_fronts : (unit : ℕ) (rest : List ℕ) → begins_pair (unit ∷ rest) ≡ true → Fronts item_of_units item_units P (unit ∷ rest)
+  pair_fronts unit [] pair = absurd (false≢true (and_parts _ _ pair).1)
+  pair_fronts unit (second ∷ rest) pair =
+      let both = and_parts _ _ pair in
+      let c = surrogate_pair_char unit second in
+      let units = pair_units unit second both.0 both.1 in
+      fronts_from item_of_units item_units P (unit ∷ second ∷ rest) rest (Character c) (item_of_pair (unit ∷ second ∷ rest) pair)
+      (units_some c) (ap (λ t. t ++ rest) (sym units)) (of_character c)
+
+  -- where P holds of characters and of surrogates
+  pub unit_fronts : (unit : ℕ) (rest : List ℕ) → AllByRecursion IsUnit (unit ∷ rest) → Fronts item_of_units item_units P (unit ∷ rest)
+  unit_fronts unit rest all = ⊎_elim
+      (λ pair. pair_fronts unit rest pair)
+      (λ (alone : begins_pair (unit ∷ rest) ≡ false). ⊎_elim
+      (λ (is : is_surrogate unit ≡ true).
+      fronts_from item_of_units item_units P (unit ∷ rest) rest (Surrogate unit) (item_of_surrogate (unit ∷ rest) alone is) (omega arith) refl (of_surrogate unit is))
+      (λ (none : is_surrogate unit ≡ false).
+      fronts_from item_of_units item_units P (unit ∷ rest) rest (Character unit) (item_of_character (unit ∷ rest) alone none)
+      (units_some unit) (ap (λ t. t ++ rest) (sym (one_unit unit all.0))) (of_character unit))
+      (cases_Bool (is_surrogate unit)))
+      (cases_Bool (begins_pair (unit ∷ rest)))
+
+readable_units : (unit : ℕ) (rest : List ℕ) → AllByRecursion IsUnit (unit ∷ rest) → Fronts item_of_units item_units IsReadable (unit ∷ rest)
+readable_units = unit_fronts IsReadable (λ c. tt) (λ unit is. is)
 
 -- the items of units have those units, and no others
 pub unit_items-restored : (units : List ℕ) → AllByRecursion IsUnit units → flat_map item_units (unit_items units) ≡ units
 unfolding unit_items
-unit_items-restored units all = items_past-restored item_of_units item_units IsUnit IsReadable unit_fronts 0 units all
+unit_items-restored units all = items_past-restored item_of_units item_units IsUnit IsReadable readable_units 0 units all
 
 pub unit_items-readable : (units : List ℕ) → AllByRecursion IsUnit units → AllByRecursion IsReadable (unit_items units)
 unfolding unit_items
-unit_items-readable units all = items_past-all item_of_units item_units IsUnit IsReadable unit_fronts 0 units all
+unit_items-readable units all = items_past-all item_of_units item_units IsUnit IsReadable readable_units 0 units all

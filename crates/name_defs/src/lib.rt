@@ -6,7 +6,8 @@ ghost use Rattle.std.specs.Char.{IsScalar};
 ghost use Rattle.std.specs.Char.Escape.{encode_utf16};
 ghost use Rattle.std.specs.Str.{StartsWithNoChar};
 ghost use Rattle.name_defs.specs.Items.{Character, Byte, Surrogate, byte_items, unit_items};
-ghost use Rattle.name_defs.specs.Texts.{bytes_text, units_text};
+ghost use Rattle.name_defs.specs.ShownLaws.{IsShown, IsShownInName};
+ghost use Rattle.name_defs.specs.Texts.{bytes_text, units_text, word_text};
 ghost use Rattle.name_defs.specs.UnitLaws.{begins_pair};
 
 /// Names of bytes that print as one text are one name.
@@ -41,4 +42,17 @@ pub fn reading_of_units()
         → unit_items (encode_utf16 c ++ rest) ≡ Character c ∷ unit_items rest }
     ensures surrogate { (unit : ℕ) (rest : List ℕ) → 0xD800 ≤ unit → unit ≤ 0xDFFF
         → begins_pair (unit ∷ rest) ≡ false → unit_items (unit ∷ rest) ≡ Surrogate unit ∷ unit_items rest }
+{}
+
+/// A printed name has no control character and no `/`.
+#[tactic(auto, using(crate::specs::ShownLaws::names_show))]
+pub fn names_show()
+    ensures bytes { (name : List ℕ) → All (λ byte. byte < 2 ^ 8) name → All IsShownInName (bytes_text name) }
+    ensures units { (name : List ℕ) → All (λ unit. unit < 2 ^ 16) name → All IsShownInName (units_text name) }
+{}
+
+/// A printed word has no control character.
+#[tactic(auto, using(crate::specs::ShownLaws::word_text_shows))]
+pub fn words_show()
+    ensures { (word : List ℕ) → All IsShown (word_text word) }
 {}
