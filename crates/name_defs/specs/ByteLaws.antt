@@ -143,7 +143,8 @@ no_char_high byte rest none = ⊎_elim
     (λ high. high)
     (cases_lt byte 128)
 
--- where P holds of characters, and of such bytes as Q tells at which no character begins
+-- bytes that Q allows begin with an item of which P holds, where it holds of each character and of each such byte that is
+-- no ASCII
 pub byte_fronts : (Q : ℕ → Type 0) (P : Item → Type 0) → ((c : ℕ) → P (Character c)) → ((byte : ℕ) → 128 ≤ byte → Q byte → P (Byte byte))
     → (byte : ℕ) (rest : List ℕ) → AllByRecursion Q (byte ∷ rest) → Fronts item_of_bytes item_bytes P (byte ∷ rest)
 byte_fronts Q P of_character of_byte byte rest all = ⊎_elim

@@ -1,5 +1,5 @@
 -- What a stored name holds, read from its front: characters, and what is none.
-use Rattle.std.specs.Prelude.{ℕ, zero, suc, ◌-◌, ◌&&◌, List, [], ◌∷◌, take, length, slice_index, find, Option, encode_utf8, if◌then◌else◌}
+use Rattle.std.specs.Prelude.{ℕ, zero, suc, ◌-◌, Bool, ◌&&◌, List, [], ◌∷◌, take, length, slice_index, find, Option, encode_utf8, if◌then◌else◌}
 use Rattle.std.specs.Option.{option_map_or}
 use Rattle.std.specs.Int.{is_in_range}
 use Rattle.std.specs.Str.{is_utf8, chars}
@@ -35,12 +35,16 @@ unfoldable pub item_of_bytes : List ℕ → Item
 item_of_bytes bytes =
     option_map_or (λ n. Character (slice_index (chars (take n bytes)) 0)) (front_len bytes) (Byte (slice_index bytes 0))
 
+-- the units begin with a pair of surrogates
+abbrev pub begins_pair : List ℕ → Bool
+begins_pair units = is_high_surrogate (slice_index units 0) && is_low_surrogate (slice_index units 1)
+
 -- the item at the front of units: a pair of surrogates is one character
 unfoldable pub item_of_units : List ℕ → Item
 item_of_units units =
     let first = slice_index units 0 in
     let second = slice_index units 1 in
-    if is_high_surrogate first && is_low_surrogate second then Character (surrogate_pair_char first second)
+    if begins_pair units then Character (surrogate_pair_char first second)
     else (if is_in_range 0xD800 0xDFFF first then Surrogate first else Character first)
 
 module _ (front : List ℕ → Item) (stored : Item → List ℕ) where

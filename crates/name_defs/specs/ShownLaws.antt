@@ -1,5 +1,5 @@
 -- Printed text shows: it has no control character, and that of a name has no `/`.
-use Rattle.std.specs.Prelude.{◌≡◌, ◌≢◌, ℕ, ◌/◌, ◌%◌, ◌<◌, ◌≤◌, Bool, false, ◌||◌, ◌==◌, List, [], ◌∷◌, ◌++◌, length, slice_index, flat_map, All, ⊤, refl}
+use Rattle.std.specs.Prelude.{◌≡◌, ℕ, ◌/◌, ◌%◌, ◌<◌, ◌≤◌, Bool, false, ◌||◌, ◌==◌, List, [], ◌∷◌, ◌++◌, length, slice_index, flat_map, All, ⊤, refl}
 use Rattle.std.proofs.Common.{arith, ⊎_elim}
 use Rattle.std.proofs.lemmas.Bool.{cond_both, or_from, or_parts, cases_lt, eqb-false}
 use Rattle.std.proofs.lemmas.Bool.Decides.{nat_tests}
@@ -10,18 +10,10 @@ use Rattle.std.specs.List.{AllByRecursion}
 use Rattle.std.specs.Str.{NonePass, NoCharPasses, chars}
 use Rattle.name_defs.specs.Spelling.{hex_digit, byte_escape, unit_escape, word_spelling, name_spelling, backslash, slash, is_noncharacter}
 use Rattle.name_defs.specs.Items.{Item, Character, Byte, Surrogate, item_of_bytes, item_bytes, item_of_units, item_units, byte_items, unit_items}
-use Rattle.name_defs.specs.Texts.{item_spelling, items_text, bytes_text, units_text, word_text}
+use Rattle.name_defs.specs.Texts.{IsShown, IsShownInName, item_spelling, items_text, bytes_text, units_text, word_text}
 use Rattle.name_defs.specs.WalkLaws.{items_past-all}
 use Rattle.name_defs.specs.ByteLaws.{byte_fronts}
 use Rattle.name_defs.specs.UnitLaws.{IsUnit, unit_fronts}
-
--- a byte of printed text: no control character
-abbrev pub IsShown : ℕ → Type 0
-IsShown byte = (0x20 ≤ byte) × (byte ≢ 0x7F)
-
--- a byte of a printed name: no `/` either
-abbrev pub IsShownInName : ℕ → Type 0
-IsShownInName byte = (0x20 ≤ byte) × (byte ≢ 0x7F) × (byte ≢ slash)
 
 -- a character that doesn't stand in a printed name
 abbrev is_kept_out : ℕ → Bool

@@ -10,10 +10,10 @@ use Rattle.std.specs.Char.{encode_utf8}
 use Rattle.std.specs.Char.Utf16.{surrogate_pair_char}
 use Rattle.std.specs.Str.{encode_utf8_all, all_scalars, StartsWithNoChar}
 use Rattle.name_defs.specs.Spelling.{byte_escape, unit_escape, name_spelling}
-use Rattle.name_defs.specs.Items.{Item, Character, Byte, Surrogate, byte_items, unit_items}
+use Rattle.name_defs.specs.Items.{Item, Character, Byte, Surrogate, begins_pair, byte_items, unit_items}
 use Rattle.name_defs.specs.Texts.{item_spelling, items_text, bytes_text, units_text}
 use Rattle.name_defs.specs.ByteLaws.{byte_items-encode, byte_items-no_char}
-use Rattle.name_defs.specs.UnitLaws.{begins_pair, is_surrogate, unit_items-pair, unit_items-one, unit_items-surrogate}
+use Rattle.name_defs.specs.UnitLaws.{is_surrogate, unit_items-pair, unit_items-one, unit_items-surrogate}
 
 pub items_text-append : (xs ys : List Item) → items_text (xs ++ ys) ≡ items_text xs ++ items_text ys
 unfolding items_text

@@ -1,5 +1,5 @@
 -- How a name of units is read: a character of one unit or of a pair, and else a surrogate alone.
-use Rattle.std.specs.Prelude.{◌≡◌, ℕ, ◌+◌, ◌-◌, ◌/◌, ◌%◌, ◌<◌, ◌≤◌, ◌&&◌, Bool, true, false, List, [], ◌∷◌, ◌++◌, length, flat_map, slice_index, refl}
+use Rattle.std.specs.Prelude.{◌≡◌, ℕ, ◌+◌, ◌-◌, ◌/◌, ◌%◌, ◌<◌, ◌≤◌, Bool, true, false, List, [], ◌∷◌, ◌++◌, length, flat_map, slice_index, refl}
 use Rattle.std.proofs.Common.{ap, sym, ◌∙◌, arith, ⊎_elim}
 use Rattle.std.proofs.lemmas.Bool.{cases_Bool, cond-true, cond-false, and_parts, and_from, and_left, false≢true, cases_lt, lt-ltb, le-ltb}
 use Rattle.std.proofs.lemmas.Bool.Decides.{nat_tests}
@@ -9,13 +9,9 @@ use Rattle.std.specs.Char.{IsScalar}
 use Rattle.std.specs.Char.Escape.{encode_utf16}
 use Rattle.std.specs.Char.Utf16.{is_high_surrogate, is_low_surrogate, surrogate_pair_char}
 use Rattle.std.specs.List.{AllByRecursion}
-use Rattle.name_defs.specs.Items.{Item, Character, Surrogate, item_units, item_of_units, unit_items, items_past}
+use Rattle.name_defs.specs.Items.{Item, Character, Surrogate, item_units, begins_pair, item_of_units, unit_items, items_past}
 use Rattle.name_defs.specs.WalkLaws.{items_past-front, items_past-restored, items_past-all, Fronts, fronts_from}
 use Rattle.name_defs.specs.SpellingLaws.{IsReadable}
-
--- the units begin with a pair of surrogates
-abbrev pub begins_pair : List ℕ → Bool
-begins_pair units = is_high_surrogate (slice_index units 0) && is_low_surrogate (slice_index units 1)
 
 -- the unit is a surrogate
 abbrev pub is_surrogate : ℕ → Bool
@@ -130,7 +126,7 @@ module _ (P : Item → Type 0) (of_character : (c : ℕ) → P (Character c)) (o
       fronts_from item_of_units item_units P (unit ∷ second ∷ rest) rest (Character c) (item_of_pair (unit ∷ second ∷ rest) pair)
       (units_some c) (ap (λ t. t ++ rest) (sym units)) (of_character c)
 
-  -- where P holds of characters and of surrogates
+  -- units begin with an item of which P holds, where it holds of each character and of each surrogate
   pub unit_fronts : (unit : ℕ) (rest : List ℕ) → AllByRecursion IsUnit (unit ∷ rest) → Fronts item_of_units item_units P (unit ∷ rest)
   unit_fronts unit rest all = ⊎_elim
       (λ pair. pair_fronts unit rest pair)

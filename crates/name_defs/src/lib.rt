@@ -5,10 +5,8 @@ ghost use Rattle.std.specs.Prelude.{◌≡◌, ◌<◌, ◌≤◌, ◌^◌, ◌+
 ghost use Rattle.std.specs.Char.{IsScalar};
 ghost use Rattle.std.specs.Char.Escape.{encode_utf16};
 ghost use Rattle.std.specs.Str.{StartsWithNoChar};
-ghost use Rattle.name_defs.specs.Items.{Character, Byte, Surrogate, byte_items, unit_items};
-ghost use Rattle.name_defs.specs.ShownLaws.{IsShown, IsShownInName};
-ghost use Rattle.name_defs.specs.Texts.{bytes_text, units_text, word_text};
-ghost use Rattle.name_defs.specs.UnitLaws.{begins_pair};
+ghost use Rattle.name_defs.specs.Items.{Character, Byte, Surrogate, begins_pair, byte_items, unit_items};
+ghost use Rattle.name_defs.specs.Texts.{IsShown, IsShownInName, bytes_text, units_text, word_text};
 
 /// Names of bytes that print as one text are one name.
 #[tactic(auto, using(crate::specs::OneSpelling::one_spelling_of_bytes))]

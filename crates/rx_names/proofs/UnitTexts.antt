@@ -9,7 +9,8 @@ use Rattle.std.proofs.lemmas.Bool.{cases_Bool, and_right}
 use Rattle.std.proofs.lemmas.Bool.Decides.{nat_tests}
 use Rattle.name_defs.specs.Spelling.{name_spelling, unit_escape}
 use Rattle.name_defs.specs.Texts.{items_text, units_text}
-use Rattle.name_defs.specs.UnitLaws.{begins_pair, is_surrogate, unit_items-nil}
+use Rattle.name_defs.specs.Items.{begins_pair}
+use Rattle.name_defs.specs.UnitLaws.{is_surrogate, unit_items-nil}
 use Rattle.name_defs.specs.TextLaws.{items_text-nil, units_text-pair, units_text-one, units_text-surrogate}
 
 pub units_text-nil : units_text [] ≡ []

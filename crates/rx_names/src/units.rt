@@ -3,7 +3,7 @@ ghost use Rattle.std.specs.Prelude.{◌≡◌, ◌≤◌, ◌++◌, [], ◌∷�
 ghost use Rattle.std.specs.Option.{SomeIff};
 ghost use Rattle.std.specs.Char.Utf16.{surrogate_pair_char};
 ghost use Rattle.name_defs.specs.Texts.{units_text};
-ghost use Rattle.name_defs.specs.UnitLaws.{begins_pair};
+ghost use Rattle.name_defs.specs.Items.{begins_pair};
 
 use crate::NoMemory;
 use crate::characters::push_name_character;
