@@ -1,0 +1,11 @@
+pub mod Spelling
+pub mod Items
+pub mod Texts
+pub mod Rows
+pub mod SpellingLaws
+pub mod WalkLaws
+pub mod ByteLaws
+pub mod UnitLaws
+pub mod TextLaws
+pub mod OneSpelling
+pub mod ShownLaws

@@ -1,0 +1,117 @@
+//! Fields of slices: a slice that is read at places, with None for a field that passes its end.
+#![tactic(auto)]
+
+ghost use Rattle.std.specs.Prelude.{◌≡◌, ◌+◌, ◌<◌, ◌≤◌, ◌↔◌, length, slice_index, IsSome, IfSome};
+ghost use Rattle.std.specs.Int.{w32, w64};
+ghost use Rattle.std.specs.Option.{SomeIff};
+ghost use Rattle.image_defs.specs.Bytes.{part};
+ghost use Rattle.image_defs.specs.Numbers.{little_at, little_signed_at, big_at};
+
+#[cfg(test)]
+mod tests;
+
+use byteorder::{BigEndian, ByteOrder, LittleEndian};
+use std::marker::Model;
+
+/// A slice of bytes whose fields are read at places. It lends the slice and copies nothing.
+#[derive(Debug, Drop)]
+pub struct View<'a> {
+    bytes: &'a [u8],
+}
+
+impl<'a> Model for View<'a> {
+    ghost use Rattle.std.specs.Prelude.{List, ℕ};
+
+    ghost Value = { List ℕ };
+
+    ghost view = { λ v. v.bytes.now };
+}
+
+impl<'a> View<'a> {
+    /// A view of these bytes.
+    pub fn new(bytes: &'a [u8]) -> View<'a>
+        ensures { result ≡ bytes.now }
+    {
+        View { bytes }
+    }
+
+    /// The `len` bytes at a place; None where they pass the end.
+    #[tactic(auto, unfolding(image_defs::specs::Bytes::part))]
+    pub fn part(&self, at: usize, len: usize) -> Option<&'a [u8]>
+        ensures within { IsSome result ↔ (at + len ≤ length self.now) }
+        ensures bytes { IfSome result (λ lent. lent.now ≡ part self.now at len) }
+    {
+        self.bytes.get(at..)?.get(..len)
+    }
+
+    /// The byte at a place; None past the end.
+    pub fn u8_at(&self, at: usize) -> Option<u8>
+        ensures { SomeIff result (at < length self.now) (slice_index self.now at) }
+    {
+        self.bytes.get(at).copied()
+    }
+
+    /// The `u16` at a place, the lowest byte first; None where it passes the end.
+    #[tactic(auto, using(crate::proofs::Fields::lent_reads), unfolding(image_defs::specs::Bytes::part))]
+    pub fn u16_le(&self, at: usize) -> Option<u16>
+        ensures { SomeIff result (at + 2 ≤ length self.now) (little_at 2 self.now at) }
+    {
+        Some(LittleEndian::read_u16(self.part(at, 2)?))
+    }
+
+    /// The `u32` at a place, the lowest byte first; None where it passes the end.
+    #[tactic(auto, using(crate::proofs::Fields::lent_reads), unfolding(image_defs::specs::Bytes::part))]
+    pub fn u32_le(&self, at: usize) -> Option<u32>
+        ensures { SomeIff result (at + 4 ≤ length self.now) (little_at 4 self.now at) }
+    {
+        Some(LittleEndian::read_u32(self.part(at, 4)?))
+    }
+
+    /// The `u64` at a place, the lowest byte first; None where it passes the end.
+    #[tactic(auto, using(crate::proofs::Fields::lent_reads), unfolding(image_defs::specs::Bytes::part))]
+    pub fn u64_le(&self, at: usize) -> Option<u64>
+        ensures { SomeIff result (at + 8 ≤ length self.now) (little_at 8 self.now at) }
+    {
+        Some(LittleEndian::read_u64(self.part(at, 8)?))
+    }
+
+    /// The `i32` at a place, the lowest byte first; None where it passes the end.
+    #[tactic(auto, using(crate::proofs::Fields::lent_reads), unfolding(image_defs::specs::Bytes::part))]
+    pub fn i32_le(&self, at: usize) -> Option<i32>
+        ensures { SomeIff result (at + 4 ≤ length self.now) (little_signed_at w32 self.now at) }
+    {
+        Some(LittleEndian::read_i32(self.part(at, 4)?))
+    }
+
+    /// The `i64` at a place, the lowest byte first; None where it passes the end.
+    #[tactic(auto, using(crate::proofs::Fields::lent_reads), unfolding(image_defs::specs::Bytes::part))]
+    pub fn i64_le(&self, at: usize) -> Option<i64>
+        ensures { SomeIff result (at + 8 ≤ length self.now) (little_signed_at w64 self.now at) }
+    {
+        Some(LittleEndian::read_i64(self.part(at, 8)?))
+    }
+
+    /// The `u16` at a place, the highest byte first; None where it passes the end.
+    #[tactic(auto, using(crate::proofs::Fields::lent_reads), unfolding(image_defs::specs::Bytes::part))]
+    pub fn u16_be(&self, at: usize) -> Option<u16>
+        ensures { SomeIff result (at + 2 ≤ length self.now) (big_at 2 self.now at) }
+    {
+        Some(BigEndian::read_u16(self.part(at, 2)?))
+    }
+
+    /// The `u32` at a place, the highest byte first; None where it passes the end.
+    #[tactic(auto, using(crate::proofs::Fields::lent_reads), unfolding(image_defs::specs::Bytes::part))]
+    pub fn u32_be(&self, at: usize) -> Option<u32>
+        ensures { SomeIff result (at + 4 ≤ length self.now) (big_at 4 self.now at) }
+    {
+        Some(BigEndian::read_u32(self.part(at, 4)?))
+    }
+
+    /// The `u64` at a place, the highest byte first; None where it passes the end.
+    #[tactic(auto, using(crate::proofs::Fields::lent_reads), unfolding(image_defs::specs::Bytes::part))]
+    pub fn u64_be(&self, at: usize) -> Option<u64>
+        ensures { SomeIff result (at + 8 ≤ length self.now) (big_at 8 self.now at) }
+    {
+        Some(BigEndian::read_u64(self.part(at, 8)?))
+    }
+}

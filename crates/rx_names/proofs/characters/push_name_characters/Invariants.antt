@@ -1,0 +1,10 @@
+use Rattle.std.proofs.Common.{◌++◌}
+use Rattle.std.specs.String.{string_bytes}
+use Rattle.std.specs.Str.Iter.{chars_rest}
+use Rattle.name_defs.specs.Spelling.{name_spelling}
+use Rattle.rx_names.proofs.Walks.{IsSpelling, spelled}
+use Rattle.rx_names.proofs.characters.push_name_characters.Given as goal
+
+-- what is there, with what the characters that are left spell, is the whole
+abbrev pub invariant-loop-c : goal.invariant-loop-c
+invariant-loop-c l = IsSpelling name_spelling (string_bytes l.text) (chars_rest l.c-iterator) (string_bytes l.initial.text ++ spelled name_spelling l.characters)

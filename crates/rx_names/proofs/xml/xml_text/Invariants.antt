@@ -1,0 +1,9 @@
+use Rattle.std.specs.String.{string_bytes}
+use Rattle.std.specs.Str.Iter.{chars_rest}
+use Rattle.name_defs.specs.Spelling.{xml_spelling}
+use Rattle.rx_names.proofs.Walks.{IsSpelling, spelled}
+use Rattle.rx_names.proofs.xml.xml_text.Given as goal
+
+-- what is there, with what the characters that are left spell, is the whole
+abbrev pub invariant-loop-c : goal.invariant-loop-c
+invariant-loop-c l = IsSpelling xml_spelling (string_bytes l.escaped) (chars_rest l.c-iterator) (spelled xml_spelling l.text)

@@ -1,0 +1,4 @@
+pub mod Match
+pub mod MatchTest
+pub mod Reading
+pub mod Tries

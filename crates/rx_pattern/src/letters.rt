@@ -1,0 +1,16 @@
+//! The characters of a text, one by one.
+ghost use Rattle.std.specs.Prelude.{◌≡◌, ◌<◌, [], ◌∷◌, ◌++◌, encode_utf8, length, MatchOption};
+ghost use Rattle.std.specs.Str.{chars};
+
+/// The first character of a text, and what is behind it.
+pub(crate) fn split_first_char(text: &str) -> Option<(char, &str)>
+    ensures { MatchOption result ((chars text.now ≡ []) × (text.now ≡ []))
+        (λ (c, rest). (chars text.now ≡ c ∷ chars rest.now) × (length rest.now < length text.now)
+        × (text.now ≡ encode_utf8 c ++ rest.now)) }
+{
+    let mut chars = text.chars();
+    match chars.next() {
+        Some(c) => Some((c, chars.as_str())),
+        None => None,
+    }
+}
