@@ -2,6 +2,8 @@ pub mod Lines
 pub mod FirstLines
 pub mod Plans
 pub mod Reading
+pub mod Entries
+pub mod Names
 pub mod Told
 pub mod Exits
 pub mod Tree
