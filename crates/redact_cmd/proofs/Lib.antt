@@ -7,3 +7,4 @@ pub mod Names
 pub mod Told
 pub mod Exits
 pub mod Tree
+pub mod Files

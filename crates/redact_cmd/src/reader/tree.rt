@@ -2,7 +2,7 @@
 ghost use Rattle.std.specs.Prelude.{◌≡◌, ◌+◌, ◌<◌, ◌≤◌, true, IfOk, [], ◌∷◌, ◌++◌, map};
 ghost use Rattle.std.specs.List.{All, list_all};
 ghost use Rattle.range_defs.specs.Places.{covers, longest_ranges};
-ghost use Rattle.rx_tree.specs.Within.{AreRangesWithin, AreFilesWithin};
+ghost use Rattle.rx_tree.specs.Within.{AreRangesWithin};
 ghost use Rattle.volume_defs.specs.FirstForm.{is_first_superblock, is_first_inode, is_first_root, is_first_entry, root_path, root_file, named_file, named_inodes};
 ghost use Rattle.volume_defs.specs.FirstInvariants.{AreFilesOf};
 ghost use Rattle.volume_defs.specs.FirstReader.{inode_range};
@@ -196,8 +196,7 @@ fn files_from(
     requires root { is_first_root size superblock.now root.now ≡ true }
     requires named { list_all is_first_entry entries.now ≡ true }
     requires files { AreFilesOf size superblock.now entries.now (named_inodes entries.now) files.items }
-    ensures files { IfOk result (λ all. all ≡ root_file superblock.now root.now ∷ files.items) }
-    ensures within { IfOk result (AreFilesWithin size) }
+    ensures { IfOk result (λ all. all ≡ root_file superblock.now root.now ∷ files.items) }
 {
     files.insert(0, root_entry(alloc, size, superblock, root)?)?;
     Ok(Files::from_vec(files))
