@@ -142,8 +142,8 @@ same_sorted (a ∷ rest) [] sorted sorted_too long same = absurd (omega (arith, 
 same_sorted (a ∷ rest) (b ∷ more) sorted sorted_too long same =
     let is : a ≡ b = neither_before a b (not_before a b rest more sorted_too same) (not_before b a more rest sorted (λ name. sym (same name))) in
     let behind : (name : List ℕ) → count_before name rest ≡ count_before name more = λ name.
-        let first : one_where (stands_before_name a name) ≡ one_where (stands_before_name b name) = ap (λ other. one_where (stands_before_name other name)) is in
-        omega (arith, first, count_before-cons name a rest, count_before-cons name b more, same name) in
+    let first : one_where (stands_before_name a name) ≡ one_where (stands_before_name b name) = ap (λ other. one_where (stands_before_name other name)) is in
+    omega (arith, first, count_before-cons name a rest, count_before-cons name b more, same name) in
     ap (λ first. first ∷ rest) is ∙ ap (λ list. b ∷ list) (same_sorted rest more (rest_sorted a rest sorted) (rest_sorted b more sorted_too) (omega (arith, long)) behind)
 
 -- sorted names that are a permutation of some are those names sorted

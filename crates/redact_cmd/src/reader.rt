@@ -89,11 +89,13 @@ fn read_volume<S: Store>(
 {
     let root = read_root(store, size, superblock)?;
     let content = read_content(alloc, store, size, superblock, &root)?;
-    let entries = leading_entries(alloc, content.as_slice())?;
-    if !may_all_be_named(&entries) {
+    let leading = leading_entries(alloc, content.as_slice())?;
+    let entries = leading.as_slice();
+    if !may_all_be_named(entries) {
         return Err(Status::NotBuilt);
     }
-    let numbers = named_inodes(alloc, &entries)?;
-    let files = read_files(alloc, store, size, superblock, &entries, &numbers)?;
-    Ok(tree_from(alloc, size, superblock, &root, &entries, &numbers, files)?)
+    let named = named_inodes(alloc, entries)?;
+    let numbers = named.as_slice();
+    let files = read_files(alloc, store, size, superblock, entries, numbers)?;
+    Ok(tree_from(alloc, size, superblock, &root, entries, numbers, files)?)
 }

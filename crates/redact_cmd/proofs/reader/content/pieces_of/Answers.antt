@@ -23,13 +23,13 @@ loop-block-init c =
 pub loop-block-preserved : goal.loop-block-preserved
 loop-block-preserved c =
     elim c.if-goes_on.branch [
-      then-goes_on w ↦ record {
+      | then-goes_on w ↦ record {
         joined =
             next_grows c.args.superblock.now c.args.inode.now c.loop-block.pieces.items c.if-goes_on.pieces.items c.loop-block.begun c.if-goes_on.begun c.piece_at-next.result c.loop-block.block
             c.loop-block.invariant.joined (omega arith) c.piece_at-next.ensures.piece (sym w.if-goes_on.ensures) (ap (λ pieces. pieces.items) w.pieces-is) w.begun-is;
         short = omega (arith, ap (λ piece. piece.len) w.begun-is);
       }
-    | else-goes_on+in_ok-push w ↦ record {
+      | else-goes_on+in_ok-push w ↦ record {
         joined =
             next_begins_anew c.args.superblock.now c.args.inode.now c.loop-block.pieces.items c.if-goes_on.pieces.items c.loop-block.begun c.if-goes_on.begun c.piece_at-next.result c.loop-block.block
             c.loop-block.invariant.joined (omega arith) c.piece_at-next.ensures.piece (sym w.if-goes_on.ensures) (ap (λ pieces. pieces.items) w.pieces-is ∙ w.in_ok-push.ensures.items) w.begun-is;
