@@ -13,4 +13,5 @@ pub mod FirstLooks
 pub mod FirstRanges
 pub mod ImageT
 pub mod RowsT
+pub mod RowsFiles
 pub mod GuardT
