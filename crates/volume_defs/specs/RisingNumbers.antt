@@ -229,3 +229,31 @@ deduped_is_rising numbers sorted rise moves =
     increasing_is_rising numbers (dedup eqb sorted) (IsStrictlyIncreasing-dedup sorted rise)
     (λ number contains. Contains-permutation sorted numbers number (IsPermutation-sym numbers sorted moves) (Contains-from_dedup eqb sorted number contains))
     (λ number contains. Contains-dedup_nat sorted number (Contains-permutation numbers sorted number moves contains))
+
+rise_increasing : (low : ℕ) (numbers : List ℕ) → RiseAbove low numbers → (k : ℕ) → k + 1 < length (low ∷ numbers) → get_or (low ∷ numbers) k 0 < get_or (low ∷ numbers) (k + 1) 0
+rise_increasing low [] rise k inside = absurd (omega (arith, inside))
+rise_increasing low (number ∷ numbers) rise zero inside = rise.0
+rise_increasing low (number ∷ numbers) rise (suc k) inside =
+    let one_more : suc (k + 1) ≡ suc k + 1 = omega arith in
+    let P : ℕ → Type 0 = λ i. get_or (number ∷ numbers) k 0 < get_or (low ∷ number ∷ numbers) i 0 in
+    subst P one_more (rise_increasing number numbers rise.1 k (omega (arith, inside)))
+
+rising_increasing : (numbers : List ℕ) → AreRising numbers → IsStrictlyIncreasing numbers
+rising_increasing [] rise = λ k inside. absurd (omega (arith, inside))
+rising_increasing (number ∷ numbers) rise = λ k inside. rise_increasing number numbers rise k inside
+
+-- the rising numbers of a list are strictly increasing, and have the list's members
+pub record AreRisingNumbersOf (numbers list : List ℕ) : Type 0 where
+  pub increasing : IsStrictlyIncreasing list
+  pub within : (number : ℕ) → Contains list number → Contains numbers number
+  pub all : (number : ℕ) → Contains numbers number → Contains list number
+
+abbrev pub RisingNumbersLaw : Type 0
+RisingNumbersLaw = (numbers : List ℕ) → AreRisingNumbersOf numbers (rising_numbers numbers)
+
+pub rising_numbers_law : RisingNumbersLaw
+rising_numbers_law numbers = record {
+  increasing = rising_increasing (rising_numbers numbers) (rising_numbers_rise numbers);
+  within = λ number contains. contained_has number numbers (sym (has_rising_number number numbers) ∙ has_contained number (rising_numbers numbers) contains);
+  all = λ number contains. contained_has number (rising_numbers numbers) (has_rising_number number numbers ∙ has_contained number numbers contains);
+}

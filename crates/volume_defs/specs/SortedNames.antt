@@ -214,3 +214,10 @@ sorted_names_push names name =
     copies_permute more (sorted_names more) (sorted_names_permute more) each
     ∙ sym (copies_permute more (name ∷ names) (IsPermutation-to_front names name) each)
     ∙ sym (copies_permute (name ∷ names) (sorted_names (name ∷ names)) (sorted_names_permute (name ∷ names)) each))
+
+-- the sorted names of a list are sorted, and are the list in another order
+abbrev pub SortedNamesLaw : Type 0
+SortedNamesLaw = (names : List (List ℕ)) → IsSorted (slice_cmp nat_cmp) (sorted_names names) × IsPermutation names (sorted_names names)
+
+pub sorted_names_law : SortedNamesLaw
+sorted_names_law names = (sorted_names_sorted names, sorted_names_permute names)
