@@ -80,6 +80,21 @@ pub run_past_end : run (slice_set image_of_blocks 74624 64) (first_files 262144)
 unfolding image_of_blocks part little_at little_signed_at superblock_of wrong_field inode_place inode_of entries_from entries_within is_entry block_place pieces_within block_pieces content_pieces content_slack content_of rising_numbers sorted_names kind_of first_files files_below first_file first_entries first_root first_inode first_superblock is_first_superblock is_first_inode has_block has_blocks is_first_root is_first_entry is_first_file is_block_size is_fragment_size is_fragment_count is_inode_count ones
 run_past_end = refl
 
+-- a content of whole blocks has no slack
+pub run_whole_blocks : run (slice_set image_of_blocks 74512 0) (first_files 262144) ≡ Ok (found_root ∷ found_file 3 ((47 ∷ 97 ∷ []) ∷ []) 8192 (record { from = 0; len = 8192; kind = Disk; at = 86016 } ∷ []) [] ∷ [])
+unfolding image_of_blocks part little_at little_signed_at superblock_of wrong_field inode_place inode_of entries_from entries_within is_entry block_place pieces_within block_pieces content_pieces content_slack content_of rising_numbers sorted_names kind_of first_files files_below first_file first_entries first_root first_inode first_superblock is_first_superblock is_first_inode has_block has_blocks is_first_root is_first_entry is_first_file is_block_size is_fragment_size is_fragment_count is_inode_count ones
+run_whole_blocks = refl
+
+-- an empty file has no piece, and its pointers count for nothing
+pub run_empty : run (slice_set (slice_set (slice_set image_of_blocks 74512 0) 74513 0) 74608 0) (first_files 262144) ≡ Ok (found_root ∷ found_file 3 ((47 ∷ 97 ∷ []) ∷ []) 0 [] [] ∷ [])
+unfolding image_of_blocks part little_at little_signed_at superblock_of wrong_field inode_place inode_of entries_from entries_within is_entry block_place pieces_within block_pieces content_pieces content_slack content_of rising_numbers sorted_names kind_of first_files files_below first_file first_entries first_root first_inode first_superblock is_first_superblock is_first_inode has_block has_blocks is_first_root is_first_entry is_first_file is_block_size is_fragment_size is_fragment_count is_inode_count ones
+run_empty = refl
+
+-- a file of more than twelve blocks has not the first form
+pub run_thirteen : run (slice_set image_of_blocks 74513 192) (first_files 262144) ≡ Err NotFirstForm
+unfolding image_of_blocks part little_at little_signed_at superblock_of wrong_field inode_place inode_of entries_from entries_within is_entry block_place pieces_within block_pieces content_pieces content_slack content_of rising_numbers sorted_names kind_of first_files files_below first_file first_entries first_root first_inode first_superblock is_first_superblock is_first_inode has_block has_blocks is_first_root is_first_entry is_first_file is_block_size is_fragment_size is_fragment_count is_inode_count ones
+run_thirteen = refl
+
 -- a root without files is found alone
 pub run_none : run image_of_none (first_files 262144) ≡ Ok (found_root ∷ [])
 unfolding image_of_none part little_at little_signed_at superblock_of wrong_field inode_place inode_of entries_from entries_within is_entry block_place pieces_within block_pieces content_pieces content_slack content_of rising_numbers sorted_names kind_of first_files files_below first_file first_entries first_root first_inode first_superblock is_first_superblock is_first_inode has_block has_blocks is_first_root is_first_entry is_first_file is_block_size is_fragment_size is_fragment_count is_inode_count ones
