@@ -1,15 +1,14 @@
 //! dfredact: makes an inventory of a raw disk image, and erases from it what rules select.
 #![tactic(auto)]
 
+use redact_cmd::{Command, Status, parse_words, run, write_status};
+use rx_store::{FileStore, NoMemory, Opened, StdSink, StdSource};
 use std::alloc::AllocError;
 use std::env;
 use std::fs::File;
 use std::io::{self, ErrorKind};
 use std::process::ExitCode;
 use std::rt::{Env, Files};
-
-use redact_cmd::{Command, Status, parse_words, run, write_status};
-use rx_store::{FileStore, NoMemory, Opened, StdSink, StdSource};
 
 /// The words behind the program's name. Words that aren't all UTF-8 are none.
 fn words_of(rt: &(impl Env + AllocGlobal)) -> Result<Vec<String>, NoMemory> {

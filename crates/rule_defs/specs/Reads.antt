@@ -23,7 +23,7 @@ is_plain_name name = is_between 1 255 (length name) && list_all is_name_byte nam
 abbrev pub hex_value : ℕ → Option ℕ
 hex_value byte =
     if is_between 48 57 byte then Some (byte - 48)
-        else (if is_between 65 70 byte then Some (byte - 55) else (if is_between 97 102 byte then Some (byte - 87) else None))
+    else (if is_between 65 70 byte then Some (byte - 55) else (if is_between 97 102 byte then Some (byte - 87) else None))
 
 -- the line of a rule with this name and these two digits
 unfoldable pub first_line : List ℕ → ℕ → ℕ → List ℕ

@@ -188,7 +188,6 @@ fn images_of_another_form_are_not_built(rt: HostRuntime) -> Result<(), Fail> {
         (SUPERBLOCK + 116, b"\x00\x00\x00\x00"),
         (SUPERBLOCK + 120, b"\x00\x00\x00\x00"),
         (SUPERBLOCK + 184, b"\x00\x00\x00\x00"),
-        (SUPERBLOCK + 184, b"\xF0\xFF\xFF\xFF"),
         (SUPERBLOCK + 188, b"\x00\x00\x00\x00"),
         (SUPERBLOCK + 1372, b"\x00"),
         // other magics that fit before: NTFS alone doesn't, as its second half is missing; HFS+ and UFS1 do

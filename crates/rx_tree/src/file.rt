@@ -2,10 +2,9 @@
 ghost use Rattle.std.specs.Prelude.{◌≡◌};
 ghost use Rattle.rx_tree.specs.Order.{HaveRisingIds};
 
-use std::marker::Model;
-
 use crate::names::Names;
 use crate::part::Parts;
+use std::marker::Model;
 
 /// Which file: its volume, and its number there (an inode, a record or a catalog id).
 #[derive(Clone, Copy, Debug, PartialEq, Eq)]

@@ -4,10 +4,9 @@ ghost use Rattle.std.specs.Cmp.Lexicographic.{slice_cmp};
 ghost use Rattle.std.specs.Ordering.{nat_cmp};
 ghost use Rattle.rx_tree.specs.Path.{joined_path};
 
+use rx_ranges::Text;
 use std::alloc::{AllocError, Global};
 use std::marker::Model;
-
-use rx_ranges::Text;
 
 /// The names of a file, sorted by their bytes. Equal ones stay, each by itself.
 #[derive(Debug, Drop)]
@@ -76,7 +75,10 @@ pub fn join_path(alloc: Global, parent: &Text, name: &Text) -> Result<Text, Path
     let folder = parent.as_str();
     let slash = if folder == "/" { "" } else { "/" };
     let last = name.as_str();
-    let len = folder.len().saturating_add(slash.len()).saturating_add(last.len());
+    let len = folder
+        .len()
+        .saturating_add(slash.len())
+        .saturating_add(last.len());
     if len > MAX_PATH {
         return Err(PathFault::TooLong);
     }

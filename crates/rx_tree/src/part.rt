@@ -1,9 +1,8 @@
 //! The parts of a file: its content, and what else it has in the image.
 ghost use Rattle.std.specs.Prelude.{◌≡◌};
 
-use std::marker::Model;
-
 use rx_ranges::{Pieces, RangeList, Text};
+use std::marker::Model;
 
 /// What a part is to its file.
 #[derive(Clone, Copy, Debug, PartialEq, Eq)]
@@ -35,12 +34,12 @@ impl Model for Part {
     ghost Value = { FoundPart };
 
     ghost view = { λ p. record {
-        role = p.role;
-        name = p.name;
-        size = p.size;
-        pieces = p.pieces;
-        slack = p.slack;
-        unreadable = p.unreadable;
+      role = p.role;
+      name = p.name;
+      size = p.size;
+      pieces = p.pieces;
+      slack = p.slack;
+      unreadable = p.unreadable;
     } };
 
     ghost invariant = { λ p. ArePiecesOf p.unreadable p.size p.pieces };

@@ -1,10 +1,8 @@
 //! The tree of an image.
-use std::marker::Model;
-
-use rx_ranges::RangeList;
-
 use crate::file::Files;
 use crate::volume::Volumes;
+use rx_ranges::RangeList;
+use std::marker::Model;
 
 /// All that an image of `image_len` bytes says: its volumes, the bytes of partitions that aren't read, its files, and
 /// the guard, which is the bytes on which all this rests. The image has at most 2^46 bytes, and everything lies in it.
@@ -24,18 +22,18 @@ impl Model for Tree {
     ghost Value = { FoundTree };
 
     ghost view = { λ t. record {
-        image_len = t.image_len;
-        volumes = t.volumes;
-        unread = t.unread;
-        files = t.files;
-        guard = t.guard;
+      image_len = t.image_len;
+      volumes = t.volumes;
+      unread = t.unread;
+      files = t.files;
+      guard = t.guard;
     } };
 
     ghost invariant = { λ t. IsWithin (record {
-        image_len = t.image_len;
-        volumes = t.volumes;
-        unread = t.unread;
-        files = t.files;
-        guard = t.guard;
+      image_len = t.image_len;
+      volumes = t.volumes;
+      unread = t.unread;
+      files = t.files;
+      guard = t.guard;
     }) };
 }

@@ -1,6 +1,6 @@
 //! The entries of a directory of an image of the first form.
-ghost use Rattle.std.specs.Prelude.{◌≡◌, ◌+◌, ◌%◌, ◌≤◌, ◌==◌, ◌&&◌, not, nat_le, IfErr, length};
-ghost use Rattle.ufs_defs.specs.Directory.{entry_of, entries_of, leads_on};
+ghost use Rattle.std.specs.Prelude.{◌≡◌, ◌+◌, ◌%◌, ◌<◌, ◌≤◌, ◌==◌, ◌&&◌, true, not, nat_le, IfErr, length};
+ghost use Rattle.ufs_defs.specs.Directory.{is_entry as is_entry_by, entry_of, entries_of, leads_on};
 ghost use Rattle.volume_defs.specs.FirstForm.{is_first_entry, is_first_name, listed};
 ghost use Rattle.image_defs.specs.Bytes.{part};
 ghost use Rattle.redact_cmd.specs.Stages.{GivesItems, IsOwnRefusal};
@@ -55,9 +55,13 @@ fn part_of(bytes: &[u8], at: usize, len: usize) -> &[u8]
 }
 
 /// The entry at a place.
+#[tactic(auto, using(crate::proofs::Reading::entry_head, ufs_defs::specs::Entries::entry_laws))]
 fn entry_at(content: &[u8], at: usize) -> Entry<'_>
-    requires { at + 8 ≤ length content.now }
-    ensures { result ≡ entry_of content.now at }
+    requires whole { length content.now % 512 ≡ 0 }
+    requires inside { at < length content.now }
+    requires entry { is_entry_by content.now at ≡ true }
+    ensures value { result ≡ entry_of content.now at }
+    ensures some { 8 ≤ result.len }
 {
     let name_len = usize::from(little::u8_at(content, at + 7));
     Entry {
@@ -76,7 +80,6 @@ fn leads_to_file(entry: &Entry<'_>) -> bool
 }
 
 /// The entries of a directory's content that lead to files.
-#[tactic(auto, using(crate::proofs::Reading::entry_head))]
 pub(super) fn leading_entries<'a>(
     alloc: Global,
     content: &'a [u8],

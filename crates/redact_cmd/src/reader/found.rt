@@ -10,7 +10,9 @@ ghost use Rattle.volume_defs.specs.FirstForm.{is_first_superblock, is_first_inod
 ghost use Rattle.redact_cmd.specs.Stages.{Gives, IsImageRefusal, IsReadFailure};
 
 use super::directory::{Entry, NamedInode, may_be_named};
-use super::form::{block_at, has_one_block, inode_at, inode_within, is_sound, may_be_file, may_be_root};
+use super::form::{
+    block_at, has_one_block, inode_at, inode_within, is_sound, may_be_file, may_be_root,
+};
 use super::read::{read_bytes, read_part};
 use crate::status::Status;
 use rx_store::Store;
