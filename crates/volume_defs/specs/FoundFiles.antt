@@ -1,16 +1,18 @@
 -- The files of an image of the first form: they lie in the image, stand by rising number, have sorted names, and are
 -- covered by their pieces.
-use Rattle.std.specs.Prelude.{◌≡◌, ℕ, ◌+◌, ◌≤◌, true, List, [], ◌∷◌, ◌++◌, refl, IsSorted, map}
-use Rattle.std.specs.List.{All, list_all}
+use Rattle.std.specs.Prelude.{◌≡◌, ℕ, ◌+◌, ◌<◌, ◌≤◌, ◌==◌, Bool, true, false, cond, List, [], ◌∷◌, ◌++◌, refl, IsSorted, map, length, get_or, take}
+use Rattle.std.specs.List.{All, filter, list_all}
 use Rattle.std.specs.Cmp.Lexicographic.{slice_cmp}
 use Rattle.std.specs.Ordering.{nat_cmp}
-use Rattle.std.proofs.Common.{sym, subst, arith}
+use Rattle.std.proofs.Common.{ap, sym, subst, arith}
 use Rattle.std.proofs.lemmas.Bool.{lt-ltb}
+use Rattle.std.proofs.lemmas.List.{take_all, take_more}
 use Rattle.std.proofs.lemmas.List.Elements.{All-cons, All-nil, All-append}
 use Rattle.range_defs.specs.declared.Range.{Range}
 use Rattle.rx_tree.specs.Covering.{ArePiecesOf}
 use Rattle.rx_tree.specs.FoundPart.{FoundPart}
 use Rattle.rx_tree.specs.Order.{StandsBeforeAll, HaveRisingIds}
+use Rattle.rx_tree.specs.Path.{joined_path}
 use Rattle.rx_tree.specs.Within.{AreRangesWithin, ArePartsWithin, AreFilesWithin}
 use Rattle.rx_tree.specs.declared.file.FileEntry.{FileEntry}
 use Rattle.rx_tree.specs.declared.file.Kind.TheVariants.{File}
@@ -48,6 +50,40 @@ files_of_push size superblock entries [] [] number file are is = (is, tt)
 files_of_push size superblock entries [] (first ∷ files) number file are is = absurd are
 files_of_push size superblock entries (first ∷ numbers) [] number file are is = absurd are
 files_of_push size superblock entries (first ∷ numbers) (found ∷ files) number file are is = (are.0, files_of_push size superblock entries numbers files number file are.1 is)
+
+-- the same where the numbers are told by how many were passed
+pub files_of_push_at : (size : ℕ) (superblock : Superblock) (entries : List Entry) (numbers : List ℕ) (files : List FileEntry) (i d : ℕ) (file : FileEntry) → i < length numbers
+    → AreFilesOf size superblock entries (take i numbers) files → IsFileOf size superblock entries (get_or numbers i d) file → AreFilesOf size superblock entries (take (i + 1) numbers) (files ++ file ∷ [])
+files_of_push_at size superblock entries numbers files i d file inside are is =
+    let P : List ℕ → Type 0 = λ list. AreFilesOf size superblock entries list (files ++ file ∷ []) in
+    subst P (sym (take_more numbers i d inside)) (files_of_push size superblock entries (take i numbers) files (get_or numbers i d) file are is)
+
+pub files_of_all : (size : ℕ) (superblock : Superblock) (entries : List Entry) (numbers : List ℕ) (files : List FileEntry) (i : ℕ) → length numbers ≤ i
+    → AreFilesOf size superblock entries (take i numbers) files → AreFilesOf size superblock entries numbers files
+files_of_all size superblock entries numbers files i past are =
+    let P : List ℕ → Type 0 = λ list. AreFilesOf size superblock entries list files in
+    subst P (take_all i numbers past) are
+
+-- ---- the paths of an inode: one more entry adds its path where it names the inode
+pub paths_of_named : (entries : List Entry) (entry : Entry) (number : ℕ) → (entry.inode == number) ≡ true → paths_of (entries ++ entry ∷ []) number ≡ paths_of entries number ++ joined_path root_path entry.name ∷ []
+paths_of_named [] entry number names = rw names refl
+paths_of_named (first ∷ entries) entry number names = either (first.inode == number) (paths_of_named entries entry number names)
+  where
+    either : (named : Bool) → paths_of (entries ++ entry ∷ []) number ≡ paths_of entries number ++ joined_path root_path entry.name ∷ []
+        → map (λ other. joined_path root_path other.name) (cond named (first ∷ filter (λ other. other.inode == number) (entries ++ entry ∷ [])) (filter (λ other. other.inode == number) (entries ++ entry ∷ [])))
+        ≡ map (λ other. joined_path root_path other.name) (cond named (first ∷ filter (λ other. other.inode == number) entries) (filter (λ other. other.inode == number) entries)) ++ joined_path root_path entry.name ∷ []
+    either true rest = ap (λ paths. joined_path root_path first.name ∷ paths) rest
+    either false rest = rest
+
+pub paths_of_other : (entries : List Entry) (entry : Entry) (number : ℕ) → (entry.inode == number) ≡ false → paths_of (entries ++ entry ∷ []) number ≡ paths_of entries number
+paths_of_other [] entry number other = rw other refl
+paths_of_other (first ∷ entries) entry number other = either (first.inode == number) (paths_of_other entries entry number other)
+  where
+    either : (named : Bool) → paths_of (entries ++ entry ∷ []) number ≡ paths_of entries number
+        → map (λ each. joined_path root_path each.name) (cond named (first ∷ filter (λ each. each.inode == number) (entries ++ entry ∷ [])) (filter (λ each. each.inode == number) (entries ++ entry ∷ [])))
+        ≡ map (λ each. joined_path root_path each.name) (cond named (first ∷ filter (λ each. each.inode == number) entries) (filter (λ each. each.inode == number) entries))
+    either true rest = ap (λ paths. joined_path root_path first.name ∷ paths) rest
+    either false rest = rest
 
 -- the file of these names and this content
 pub named_file_is : (superblock : Superblock) (entries : List Entry) (number : ℕ) (inode : Inode) (names : List (List ℕ)) (parts : List FoundPart)
