@@ -66,11 +66,11 @@ content_slack_some superblock inode left =
     let is : (inode.size % block_size superblock == 0) ≡ false = grind (arith, nat_tests) in
     rw is refl
 
--- the part of these pieces and this slack is the content
-pub content_is : (superblock : Superblock) (inode : Inode) (pieces : List Piece) (slack : List Range) → pieces ≡ content_pieces superblock inode → slack ≡ content_slack superblock inode
-    → record { role = Content; name = []; size = inode.size; pieces = pieces; slack = slack; unreadable = false } ≡ content_of superblock inode
+-- the part without a name, of these pieces and this slack, is the content
+pub content_is : (superblock : Superblock) (inode : Inode) (name : List ℕ) (pieces : List Piece) (slack : List Range) → name ≡ [] → pieces ≡ content_pieces superblock inode → slack ≡ content_slack superblock inode
+    → record { role = Content; name = name; size = inode.size; pieces = pieces; slack = slack; unreadable = false } ≡ content_of superblock inode
 unfolding content_of
-content_is superblock inode pieces slack same_pieces same_slack = rw (same_pieces, same_slack) refl
+content_is superblock inode name pieces slack none same_pieces same_slack = rw (none, same_pieces, same_slack) refl
 
 -- a content lies in an image in which its blocks do
 pub content_within : (len : ℕ) (superblock : Superblock) (inode : Inode) → 0 < block_size superblock → AreBlocksWithin len superblock inode
