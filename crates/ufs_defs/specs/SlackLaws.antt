@@ -1,5 +1,6 @@
 -- What holds of the slack and of the content of a file of at most twelve blocks.
 use Rattle.std.specs.Prelude.{◌≡◌, ℕ, ◌+◌, ◌-◌, ◌/◌, ◌%◌, ◌<◌, ◌≤◌, Bool, true, false, ◌==◌, if◌then◌else◌, List, [], ◌∷◌, refl}
+use Rattle.std.specs.List.{All}
 use Rattle.std.proofs.Common.{arith}
 use Rattle.std.proofs.lemmas.Bool.Decides.{nat_tests, Decides-eqb}
 use Rattle.std.proofs.lemmas.List.Elements.{All-cons, All-nil}
@@ -7,10 +8,11 @@ use Rattle.range_defs.specs.declared.Range.{Range}
 use Rattle.range_defs.specs.Places.{IsRangeList, covers}
 use Rattle.range_defs.specs.RangeLaws.{same_range_list}
 use Rattle.rx_ranges.specs.declared.pieces.Piece.{Piece}
+use Rattle.rx_tree.specs.Covering.{ArePiecesOf}
 use Rattle.rx_tree.specs.declared.part.Role.TheVariants.{Content}
 use Rattle.rx_tree.specs.Within.{AreRangesWithin, ArePartsWithin, ArePiecesWithin}
 use Rattle.ufs_defs.specs.Blocks.{block_size, block_count, content_place, content_pieces, content_slack, content_of}
-use Rattle.ufs_defs.specs.BlockLaws.{AreBlocksWithin, content_pieces_within}
+use Rattle.ufs_defs.specs.BlockLaws.{IsPlaced, AreBlocksWithin, content_pieces_cover, content_pieces_placed, content_pieces_within}
 use Rattle.ufs_defs.specs.declared.superblock.Superblock.{Superblock}
 use Rattle.ufs_defs.specs.declared.inode.Inode.{Inode}
 
@@ -64,11 +66,11 @@ content_slack_some superblock inode left =
     let is : (inode.size % block_size superblock == 0) ≡ false = grind (arith, nat_tests) in
     rw is refl
 
--- the part of these pieces and this slack is the content
-pub content_is : (superblock : Superblock) (inode : Inode) (pieces : List Piece) (slack : List Range) → pieces ≡ content_pieces superblock inode → slack ≡ content_slack superblock inode
-    → record { role = Content; name = []; size = inode.size; pieces = pieces; slack = slack; unreadable = false } ≡ content_of superblock inode
+-- the part without a name, of these pieces and this slack, is the content
+pub content_is : (superblock : Superblock) (inode : Inode) (name : List ℕ) (pieces : List Piece) (slack : List Range) → name ≡ [] → pieces ≡ content_pieces superblock inode → slack ≡ content_slack superblock inode
+    → record { role = Content; name = name; size = inode.size; pieces = pieces; slack = slack; unreadable = false } ≡ content_of superblock inode
 unfolding content_of
-content_is superblock inode pieces slack same_pieces same_slack = rw (same_pieces, same_slack) refl
+content_is superblock inode name pieces slack none same_pieces same_slack = rw (none, same_pieces, same_slack) refl
 
 -- a content lies in an image in which its blocks do
 pub content_within : (len : ℕ) (superblock : Superblock) (inode : Inode) → 0 < block_size superblock → AreBlocksWithin len superblock inode
@@ -78,3 +80,22 @@ content_within len superblock inode some inside =
     All-cons (λ part. ArePiecesWithin len part.pieces × AreRangesWithin len part.slack) (content_of superblock inode) []
     (content_pieces_within len superblock inode some inside, content_slack_within len superblock inode some inside)
     (All-nil (λ part. ArePiecesWithin len part.pieces × AreRangesWithin len part.slack))
+
+-- where the blocks of a content lie in an image, its pieces cover it in order, each as long as possible, and put each
+-- byte at its place, in the image; the slack is a canonical list in the image
+pub record IsContent (len : ℕ) (superblock : Superblock) (inode : Inode) : Type 0 where
+  pub covered : ArePiecesOf false inode.size (content_pieces superblock inode)
+  pub placed : All (IsPlaced len superblock inode) (content_pieces superblock inode)
+  pub kept : IsRangeList (content_slack superblock inode)
+  pub within : AreRangesWithin len (content_slack superblock inode)
+
+abbrev pub ContentLaw : Type 0
+ContentLaw = (len : ℕ) (superblock : Superblock) (inode : Inode) → 0 < block_size superblock → AreBlocksWithin len superblock inode → IsContent len superblock inode
+
+pub content_law : ContentLaw
+content_law len superblock inode some inside = record {
+  covered = content_pieces_cover superblock inode some;
+  placed = content_pieces_placed len superblock inode some inside;
+  kept = content_slack_kept superblock inode some;
+  within = content_slack_within len superblock inode some inside;
+}

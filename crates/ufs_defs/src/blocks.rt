@@ -1,6 +1,7 @@
 //! The blocks of a file.
 ghost use Rattle.std.specs.Prelude.{◌≡◌, ◌<◌, ◌^◌};
 ghost use Rattle.ufs_defs.specs.Blocks.{block_place as block_place_by};
+ghost use Rattle.ufs_defs.specs.SlackLaws.{ContentLaw};
 
 use crate::inode::Inode;
 use crate::signed::counted;
@@ -16,3 +17,9 @@ pub fn block_place(superblock: &Superblock, inode: &Inode, block: usize) -> u128
     let pointer = inode.direct[block].max(0) as u64;
     u128::from(pointer) * u128::from(counted(superblock.fsize))
 }
+
+/// What the definition gives for the content of a file of at most twelve blocks: pieces that cover it and put each byte
+/// at its place, and the rest of its last block.
+pub fn content_lies_at_its_places()
+    ensures { ContentLaw }
+{}

@@ -1,6 +1,8 @@
 -- A walk over some items that runs a program for each.
-use Rattle.std.specs.Prelude.{◌≡◌, ℕ, Result, Ok, Err, List, [], ◌∷◌, ◌++◌, refl}
-use Rattle.std.proofs.Common.{ap, sym, ◌∙◌, append_assoc, append-nil}
+use Rattle.std.specs.Prelude.{◌≡◌, ℕ, suc, ◌+◌, ◌<◌, ◌≤◌, Result, Ok, Err, List, [], ◌∷◌, ◌++◌, length, get_or, drop, refl}
+use Rattle.std.proofs.Common.{ap, sym, ◌∙◌, subst, arith, append_assoc, append-nil}
+use Rattle.std.proofs.Math.Seq.{drop-cons}
+use Rattle.std.proofs.Math.ListN.{drop_of_length-le}
 use Rattle.image_defs.specs.Ask.{Ask, run, each}
 use Rattle.image_defs.specs.Looks.{bind_gives}
 use Rattle.image_defs.specs.Runs.{with_value, in_front_of, run_each}
@@ -41,6 +43,29 @@ pub each_stops : {E X Y : Type 0} (image : List ℕ) (ask : X → Ask E Y) (item
 each_stops image ask items values x left e passed is =
     passed.whole
     ∙ ap (λ rest. with_value (λ more. values ++ more) rest) (run_each_first image ask x left ∙ ap (λ first. in_front_of first (run image (each ask left))) is)
+
+-- the same where the items are told by how many were passed
+pub each_goes_on_at : {E X Y : Type 0} (image : List ℕ) (ask : X → Ask E Y) (items : List X) (values : List Y) (i : ℕ) (d : X) (y : Y) → i < length items → IsRunTo image ask items values (drop i items)
+    → run image (ask (get_or items i d)) ≡ Ok y → IsRunTo image ask items (values ++ y ∷ []) (drop (i + 1) items)
+each_goes_on_at {X = X} image ask items values i d y inside passed is =
+    let next : X = get_or items i d in
+    let P : List X → Type 0 = λ left. IsRunTo image ask items values left in
+    let one_more : i + 1 ≡ suc i = omega arith in
+    let Q : ℕ → Type 0 = λ place. IsRunTo image ask items (values ++ y ∷ []) (drop place items) in
+    subst Q (sym one_more) (each_goes_on image ask items values next (drop (suc i) items) y (subst P (drop-cons items i d inside) passed) is)
+
+pub each_stops_at : {E X Y : Type 0} (image : List ℕ) (ask : X → Ask E Y) (items : List X) (values : List Y) (i : ℕ) (d : X) (e : E) → i < length items → IsRunTo image ask items values (drop i items)
+    → run image (ask (get_or items i d)) ≡ Err e → run image (each ask items) ≡ Err e
+each_stops_at {X = X} image ask items values i d e inside passed is =
+    let next : X = get_or items i d in
+    let P : List X → Type 0 = λ left. IsRunTo image ask items values left in
+    each_stops image ask items values next (drop (suc i) items) e (subst P (drop-cons items i d inside) passed) is
+
+pub each_ends_at : {E X Y : Type 0} (image : List ℕ) (ask : X → Ask E Y) (items : List X) (values : List Y) (i : ℕ) → length items ≤ i → IsRunTo image ask items values (drop i items)
+    → run image (each ask items) ≡ Ok values
+each_ends_at {X = X} image ask items values i past passed =
+    let P : List X → Type 0 = λ left. IsRunTo image ask items values left in
+    each_ends image ask items values (subst P (drop_of_length-le items past) passed)
 
 same_values : {E X : Type 0} (a b : X) → (let first : Result X E = Ok a in let second : Result X E = Ok b in first ≡ second) → a ≡ b
 same_values a b same = cc

@@ -131,9 +131,13 @@ root_file superblock root = record {
   parts = content_of superblock root ∷ [];
 }
 
--- the paths of the entries that name an inode, sorted by their bytes
+-- the paths of the entries that name an inode
+abbrev pub paths_of : List Entry → ℕ → List (List ℕ)
+paths_of entries number = map (λ entry. joined_path root_path entry.name) (filter (λ entry. entry.inode == number) entries)
+
+-- its names: these paths, sorted by their bytes
 abbrev pub names_of : List Entry → ℕ → List (List ℕ)
-names_of entries number = sorted_names (map (λ entry. joined_path root_path entry.name) (filter (λ entry. entry.inode == number) entries))
+names_of entries number = sorted_names (paths_of entries number)
 
 -- the file of an inode that entries name
 abbrev pub named_file : Superblock → List Entry → ℕ → Inode → FileEntry

@@ -1,50 +1,28 @@
 -- A tree of an image of the first form is a tree: its files stand in order and are covered, its names are sorted, and
 -- all of it lies in the image.
-use Rattle.std.specs.Prelude.{◌≡◌, ℕ, ◌+◌, ◌≤◌, ◌==◌, true, nat_le, Result, Ok, List, [], ◌∷◌, IsSorted, length, map}
-use Rattle.std.specs.List.{All, filter, list_all}
-use Rattle.std.specs.Cmp.Lexicographic.{slice_cmp}
-use Rattle.std.specs.Ordering.{nat_cmp}
+use Rattle.std.specs.Prelude.{◌≡◌, ℕ, ◌+◌, ◌≤◌, true, nat_le, Result, Ok, List, [], ◌∷◌, length}
+use Rattle.std.specs.List.{All, list_all}
 use Rattle.std.proofs.Common.{sym, subst, arith}
-use Rattle.std.proofs.lemmas.Bool.{leb-true, lt-ltb}
+use Rattle.std.proofs.lemmas.Bool.{leb-true}
 use Rattle.std.proofs.lemmas.List.Elements.{All-cons, All-nil}
 use Rattle.range_defs.specs.Places.{covers}
 use Rattle.image_defs.specs.Bytes.{part}
 use Rattle.image_defs.specs.Ask.{Done, run, visits, each}
 use Rattle.image_defs.specs.Guard.{longest-ends}
 use Rattle.image_defs.specs.Looks.{bind_gives, check_gives}
-use Rattle.rx_tree.specs.Covering.{ArePiecesOf}
-use Rattle.rx_tree.specs.FoundPart.{FoundPart}
-use Rattle.rx_tree.specs.Order.{StandsBeforeAll, HaveRisingIds}
-use Rattle.rx_tree.specs.Within.{IsWithin, ArePartsWithin, AreFilesWithin}
+use Rattle.rx_tree.specs.Order.{HaveRisingIds}
+use Rattle.rx_tree.specs.Within.{IsWithin, AreFilesWithin}
 use Rattle.rx_tree.specs.declared.file.FileEntry.{FileEntry}
-use Rattle.rx_tree.specs.Path.{joined_path}
 use Rattle.ufs_defs.specs.Superblock.{superblock_of}
-use Rattle.ufs_defs.specs.Blocks.{content_of}
-use Rattle.ufs_defs.specs.BlockLaws.{content_pieces_cover}
-use Rattle.ufs_defs.specs.SlackLaws.{content_within}
 use Rattle.ufs_defs.specs.Directory.{Entry}
 use Rattle.ufs_defs.specs.declared.superblock.Superblock.{Superblock}
 use Rattle.ufs_defs.specs.declared.inode.Inode.{Inode}
 use Rattle.volume_defs.specs.Kind.{kind_of}
-use Rattle.volume_defs.specs.RisingNumbers.{RiseAbove}
-use Rattle.volume_defs.specs.SortedNames.{sorted_names_sorted}
 use Rattle.volume_defs.specs.EachRun.{each_first_gives}
-use Rattle.volume_defs.specs.FirstForm.{FirstFault, NotFirstForm, is_first_length, is_first_kind, is_first_superblock, is_first_root, is_first_entry, is_first_file, first_superblock, first_inode, first_root, first_entries, first_file, files_below, first_files, named_inodes, root_path, root_file, named_file}
+use Rattle.volume_defs.specs.FirstForm.{FirstFault, NotFirstForm, is_first_length, is_first_kind, is_first_superblock, is_first_inode, is_first_root, is_first_entry, is_first_file, first_superblock, first_inode, first_root, first_entries, first_file, files_below, first_files, named_inodes, root_file, named_file}
+use Rattle.volume_defs.specs.FoundFiles.{IsFileOf, AreFilesOf, IsWhole, first_files_within, first_files_rise, first_files_whole}
 use Rattle.volume_defs.specs.FirstTree.{guard_of, tree_of, whole_volume}
-use Rattle.volume_defs.specs.FirstKept.{both_hold, first_block_size, root_blocks_within, file_blocks_within, named_inodes_rise}
-
--- a file that was found at an inode
-pub record IsFileOf (size : ℕ) (superblock : Superblock) (entries : List Entry) (number : ℕ) (file : FileEntry) : Type 0 where
-  pub inode : Inode
-  pub good : is_first_file size superblock inode ≡ true
-  pub whole : file ≡ named_file superblock entries number inode
-
--- files that were found at inodes, one for each, in order
-abbrev pub AreFilesOf : ℕ → Superblock → List Entry → List ℕ → List FileEntry → Type 0
-AreFilesOf size superblock entries [] [] = Unit {0}
-AreFilesOf size superblock entries [] (file ∷ files) = ⊥
-AreFilesOf size superblock entries (number ∷ numbers) [] = ⊥
-AreFilesOf size superblock entries (number ∷ numbers) (file ∷ files) = IsFileOf size superblock entries number file × AreFilesOf size superblock entries numbers files
+use Rattle.volume_defs.specs.FirstKept.{both_hold}
 
 -- what the tests made sure of where an image has the first form
 pub record IsOfFirstForm (size : ℕ) (files : List FileEntry) : Type 0 where
@@ -78,13 +56,15 @@ root_gives image size superblock root gives =
     let P : Inode → Type 0 = λ value. is_first_root size superblock value ≡ true in
     subst P (same_value found.0 root tested.1) tested.0
 
-file_gives : (image : List ℕ) (size : ℕ) (superblock : Superblock) (entries : List Entry) (number : ℕ) (file : FileEntry) → run image (first_file size superblock entries number) ≡ Ok file
+pub file_gives : (image : List ℕ) (size : ℕ) (superblock : Superblock) (entries : List Entry) (number : ℕ) (file : FileEntry) → run image (first_file size superblock entries number) ≡ Ok file
     → IsFileOf size superblock entries number file
-unfolding first_file
+unfolding first_file first_inode
 file_gives image size superblock entries number file gives =
     let found = bind_gives image (first_inode size superblock number) _ file gives in
+    let inside = check_gives image (is_first_inode size superblock number) NotFirstForm _ found.0 found.1 in
     let fits = check_gives image (is_first_file size superblock found.0) NotFirstForm (λ x. Done (named_file superblock entries number found.0)) file found.2 in
     record {
+      inside = inside.0;
       inode = found.0;
       good = fits.0;
       whole = sym (same_value (named_file superblock entries number found.0) file fits.1);
@@ -138,19 +118,6 @@ first_length_in_reach size long =
     let both = both_hold (nat_le 66912 size) (nat_le size 70368744177664) long in
     (leb-true 66912 size both.0, leb-true size 70368744177664 both.1)
 
--- ---- the files lie in the image
-
-files_within : (size : ℕ) (superblock : Superblock) (entries : List Entry) (numbers : List ℕ) (files : List FileEntry) → is_first_superblock superblock ≡ true
-    → AreFilesOf size superblock entries numbers files → AreFilesWithin size files
-files_within size superblock entries [] [] good are = All-nil (λ file. ArePartsWithin size file.parts)
-files_within size superblock entries [] (file ∷ files) good are = absurd are
-files_within size superblock entries (number ∷ numbers) [] good are = absurd are
-files_within size superblock entries (number ∷ numbers) (file ∷ files) good are =
-    let P : FileEntry → Type 0 = λ found. ArePartsWithin size found.parts in
-    All-cons P file files
-    (subst P (sym are.0.whole) (content_within size superblock are.0.inode (first_block_size superblock good) (file_blocks_within size superblock are.0.inode are.0.good)))
-    (files_within size superblock entries numbers files good are.1)
-
 -- the tree lies in its image
 pub first_tree_within : (image : List ℕ) (files : List FileEntry) → run image (first_files (length image)) ≡ Ok files → IsWithin (tree_of (length image) (guard_of image) files)
 unfolding guard_of
@@ -163,67 +130,20 @@ first_tree_within image files gives =
       unread = All-nil (λ range. range.at + range.len ≤ length image);
       files =
           subst Within (sym found.whole)
-          (All-cons (λ file. ArePartsWithin (length image) file.parts) (root_file found.superblock found.root) found.others
-          (content_within (length image) found.superblock found.root (first_block_size found.superblock found.good_superblock) (root_blocks_within (length image) found.superblock found.root found.good_superblock found.good_root))
-          (files_within (length image) found.superblock found.entries (named_inodes found.entries) found.others found.good_superblock found.good_files));
+          (first_files_within (length image) found.superblock found.root found.entries found.others found.good_superblock found.good_root found.good_files);
       guard = longest-ends (covers (visits image (first_files (length image)))) 0 (length image) (length image) (omega arith);
     }
 
--- ---- they stand by rising number
-
-files_rise : (size : ℕ) (superblock : Superblock) (entries : List Entry) (low : ℕ) (numbers : List ℕ) (files : List FileEntry) → RiseAbove low numbers → AreFilesOf size superblock entries numbers files
-    → StandsBeforeAll (record { volume = 0; number = low }) files × HaveRisingIds files
-files_rise size superblock entries low [] [] rise are = (tt, tt)
-files_rise size superblock entries low [] (file ∷ files) rise are = absurd are
-files_rise size superblock entries low (number ∷ numbers) [] rise are = absurd are
-files_rise size superblock entries low (number ∷ numbers) (file ∷ files) rise are =
-    let P : FileEntry → Type 0 = λ found. StandsBeforeAll (record { volume = 0; number = low }) (found ∷ files) × HaveRisingIds (found ∷ files) in
-    subst P (sym are.0.whole) (lt-ltb low number rise.0, files_rise size superblock entries number numbers files rise.1 are.1)
-
+-- its files stand by rising number
 pub first_tree_rises : (image : List ℕ) (size : ℕ) (files : List FileEntry) → run image (first_files size) ≡ Ok files → HaveRisingIds files
 first_tree_rises image size files gives =
     let found = first_files_give image size files gives in
     let P : List FileEntry → Type 0 = λ list. HaveRisingIds list in
-    subst P (sym found.whole) (files_rise size found.superblock found.entries 2 (named_inodes found.entries) found.others (named_inodes_rise found.entries found.good_entries) found.good_files)
+    subst P (sym found.whole) (first_files_rise size found.superblock found.root found.entries found.others found.good_entries found.good_files)
 
--- ---- their names are sorted, and the pieces of their parts cover them
-
-abbrev pub IsCovered : FoundPart → Type 0
-IsCovered part = ArePiecesOf part.unreadable part.size part.pieces
-
-pub record IsWhole (file : FileEntry) : Type 0 where
-  pub sorted : IsSorted (slice_cmp nat_cmp) file.names
-  pub covered : All IsCovered file.parts
-
-one_name_sorted : (name : List ℕ) → IsSorted (slice_cmp nat_cmp) (name ∷ [])
-one_name_sorted name = λ k d low high. absurd (omega (arith, high))
-
-content_covered : (superblock : Superblock) (inode : Inode) → is_first_superblock superblock ≡ true → All IsCovered (content_of superblock inode ∷ [])
-unfolding content_of
-content_covered superblock inode good = All-cons IsCovered (content_of superblock inode) [] (content_pieces_cover superblock inode (first_block_size superblock good)) (All-nil IsCovered)
-
-files_whole : (size : ℕ) (superblock : Superblock) (entries : List Entry) (numbers : List ℕ) (files : List FileEntry) → is_first_superblock superblock ≡ true
-    → AreFilesOf size superblock entries numbers files → All IsWhole files
-files_whole size superblock entries [] [] good are = All-nil IsWhole
-files_whole size superblock entries [] (file ∷ files) good are = absurd are
-files_whole size superblock entries (number ∷ numbers) [] good are = absurd are
-files_whole size superblock entries (number ∷ numbers) (file ∷ files) good are =
-    All-cons IsWhole file files
-    (subst IsWhole (sym are.0.whole)
-    (record {
-      sorted = sorted_names_sorted (map (λ entry. joined_path root_path entry.name) (filter (λ entry. entry.inode == number) entries));
-      covered = content_covered superblock are.0.inode good;
-    }))
-    (files_whole size superblock entries numbers files good are.1)
-
+-- and are whole
 pub first_tree_whole : (image : List ℕ) (size : ℕ) (files : List FileEntry) → run image (first_files size) ≡ Ok files → All IsWhole files
 first_tree_whole image size files gives =
     let found = first_files_give image size files gives in
     let P : List FileEntry → Type 0 = λ list. All IsWhole list in
-    subst P (sym found.whole)
-    (All-cons IsWhole (root_file found.superblock found.root) found.others
-    (record {
-      sorted = one_name_sorted root_path;
-      covered = content_covered found.superblock found.root found.good_superblock;
-    })
-    (files_whole size found.superblock found.entries (named_inodes found.entries) found.others found.good_superblock found.good_files))
+    subst P (sym found.whole) (first_files_whole size found.superblock found.root found.entries found.others found.good_superblock found.good_files)

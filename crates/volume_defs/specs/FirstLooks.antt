@@ -1,9 +1,9 @@
 -- The definition of the first form looks only inside the image, and the canonical list of what it looks at is the
 -- guard.
-use Rattle.std.specs.Prelude.{◌≡◌, ℕ, ◌≤◌, true, List, [], ◌∷◌, length}
+use Rattle.std.specs.Prelude.{◌≡◌, ℕ, ◌≤◌, true, List, ◌∷◌, length}
 use Rattle.std.specs.List.{All, list_all}
 use Rattle.std.proofs.Common.{arith, sym, subst}
-use Rattle.std.proofs.lemmas.List.Elements.{All-cons, All-nil}
+use Rattle.std.proofs.lemmas.List.Elements.{All-nil}
 use Rattle.range_defs.specs.declared.Range.{Range}
 use Rattle.range_defs.specs.Places.{covers, IsRangeList}
 use Rattle.range_defs.specs.RangeLaws.{EndsBy}
@@ -19,7 +19,8 @@ use Rattle.ufs_defs.specs.declared.superblock.Superblock.{Superblock}
 use Rattle.ufs_defs.specs.declared.inode.Inode.{Inode}
 use Rattle.volume_defs.specs.Kind.{kind_of}
 use Rattle.volume_defs.specs.FirstForm.{FirstFault, NotFirstForm, is_first_length, is_first_kind, is_first_superblock, is_first_inode, is_first_root, is_first_entry, is_first_file, first_superblock, first_inode, first_root, first_entries, first_file, named_inodes, named_file, root_file, listed, files_below, first_files}
-use Rattle.volume_defs.specs.FirstReader.{probe_places, visits_kind}
+use Rattle.volume_defs.specs.FirstReader.{visits_kind}
+use Rattle.volume_defs.specs.FirstRanges.{probes_within}
 use Rattle.volume_defs.specs.FirstTree.{guard_of}
 use Rattle.volume_defs.specs.FirstKept.{first_inode_within, root_content_within}
 use Rattle.volume_defs.specs.FirstInvariants.{root_gives, first_length_in_reach}
@@ -59,18 +60,10 @@ below_looks image size superblock =
     (looks_each (EndsBy size) image (first_file size superblock entries) (named_inodes entries) (λ number. file_looks image size superblock entries number))
     (λ files are. All-nil (EndsBy size)))))
 
-probes_look : (size : ℕ) → 66912 ≤ size → All (EndsBy size) probe_places
-probes_look size long =
-    All-cons (EndsBy size) (record { at = 3; len = 8 }) (record { at = 510; len = 2 } ∷ record { at = 1024; len = 4 } ∷ record { at = 9564; len = 4 } ∷ record { at = 66908; len = 4 } ∷ []) (omega (arith, long))
-    (All-cons (EndsBy size) (record { at = 510; len = 2 }) (record { at = 1024; len = 4 } ∷ record { at = 9564; len = 4 } ∷ record { at = 66908; len = 4 } ∷ []) (omega (arith, long))
-    (All-cons (EndsBy size) (record { at = 1024; len = 4 }) (record { at = 9564; len = 4 } ∷ record { at = 66908; len = 4 } ∷ []) (omega (arith, long))
-    (All-cons (EndsBy size) (record { at = 9564; len = 4 }) (record { at = 66908; len = 4 } ∷ []) (omega (arith, long))
-    (All-cons (EndsBy size) (record { at = 66908; len = 4 }) [] (omega (arith, long)) (All-nil (EndsBy size))))))
-
 kind_looks : (image : List ℕ) (size : ℕ) → 66912 ≤ size → LooksAt (EndsBy size) image (kind_of {E = FirstFault})
 kind_looks image size long =
     let P : List Range → Type 0 = λ ranges. All (EndsBy size) ranges in
-    subst P (sym (visits_kind FirstFault image)) (probes_look size long)
+    subst P (sym (visits_kind FirstFault image)) (probes_within size long)
 
 superblock_looks : (image : List ℕ) (size : ℕ) → 66912 ≤ size → LooksAt (EndsBy size) image first_superblock
 unfolding first_superblock

@@ -1,11 +1,13 @@
 -- The ranges of an image of the first form at which one looks for its files, and its tree where they are known.
-use Rattle.std.specs.Prelude.{◌≡◌, ℕ, Bool, true, false, Ok, Err, List, ◌∷◌, ◌++◌, length, map, refl}
+use Rattle.std.specs.Prelude.{◌≡◌, ℕ, ◌+◌, ◌≤◌, Bool, true, false, Ok, Err, List, [], ◌∷◌, ◌++◌, length, map, refl}
 use Rattle.std.specs.List.{list_all}
-use Rattle.std.proofs.Common.{ap, ◌∙◌}
+use Rattle.std.proofs.Common.{ap, ◌∙◌, arith}
+use Rattle.std.proofs.lemmas.List.Elements.{All-cons, All-nil}
 use Rattle.range_defs.specs.declared.Range.{Range}
 use Rattle.range_defs.specs.Places.{covers, longest_ranges}
 use Rattle.image_defs.specs.Ask.{run, visits, each}
 use Rattle.image_defs.specs.Runs.{with_value, checked}
+use Rattle.rx_tree.specs.Within.{AreRangesWithin}
 use Rattle.rx_tree.specs.declared.file.FileEntry.{FileEntry}
 use Rattle.ufs_defs.specs.Directory.{Entry}
 use Rattle.ufs_defs.specs.Blocks.{block_place}
@@ -24,6 +26,15 @@ first_ranges superblock root numbers =
     ∷ inode_range superblock 2
     ∷ record { at = block_place superblock root 0; len = root.size }
     ∷ map (inode_range superblock) numbers)
+
+-- the places of the magics lie in an image that is long enough for them
+pub probes_within : (size : ℕ) → 66912 ≤ size → AreRangesWithin size probe_places
+probes_within size long =
+    All-cons (λ range. range.at + range.len ≤ size) (record { at = 3; len = 8 }) (record { at = 510; len = 2 } ∷ record { at = 1024; len = 4 } ∷ record { at = 9564; len = 4 } ∷ record { at = 66908; len = 4 } ∷ []) (omega (arith, long))
+    (All-cons (λ range. range.at + range.len ≤ size) (record { at = 510; len = 2 }) (record { at = 1024; len = 4 } ∷ record { at = 9564; len = 4 } ∷ record { at = 66908; len = 4 } ∷ []) (omega (arith, long))
+    (All-cons (λ range. range.at + range.len ≤ size) (record { at = 1024; len = 4 }) (record { at = 9564; len = 4 } ∷ record { at = 66908; len = 4 } ∷ []) (omega (arith, long))
+    (All-cons (λ range. range.at + range.len ≤ size) (record { at = 9564; len = 4 }) (record { at = 66908; len = 4 } ∷ []) (omega (arith, long))
+    (All-cons (λ range. range.at + range.len ≤ size) (record { at = 66908; len = 4 }) [] (omega (arith, long)) (All-nil (λ range. range.at + range.len ≤ size))))))
 
 -- an image that is a UFS2 with this superblock
 pub record IsVolume (image : List ℕ) (size : ℕ) (superblock : Superblock) : Type 0 where

@@ -1,10 +1,15 @@
 -- The numbers of a list by rising value, each once.
-use Rattle.std.specs.Prelude.{◌≡◌, ℕ, ◌<◌, ◌≤◌, Bool, true, false, ◌||◌, ◌==◌, nat_lt, if◌then◌else◌, List, [], ◌∷◌, refl}
-use Rattle.std.specs.List.{All, list_any}
-use Rattle.std.proofs.Common.{ap, sym, ◌∙◌, arith, ⊎_elim}
+use Rattle.std.specs.Prelude.{◌≡◌, ℕ, zero, suc, ◌+◌, ◌<◌, ◌≤◌, Bool, true, false, ◌||◌, ◌==◌, nat_lt, eqb, if◌then◌else◌, List, [], ◌∷◌, ◌++◌, length, get_or, refl, IsSorted}
+use Rattle.std.specs.List.{All, Contains, dedup, list_any}
+use Rattle.std.specs.List.Sorted.{IsPermutation, IsStrictlyIncreasing}
+use Rattle.std.specs.Ordering.{nat_cmp}
+use Rattle.std.proofs.Common.{ap, sym, ◌∙◌, subst, arith, ⊎_elim}
 use Rattle.std.proofs.lemmas.Bool.{cases_lt}
 use Rattle.std.proofs.lemmas.Bool.Decides.{nat_tests, Decides-eqb}
 use Rattle.std.proofs.lemmas.List.Elements.{All-head, All-tail}
+use Rattle.std.proofs.lemmas.List.Kept.{Contains-dedup_nat, Contains-from_dedup}
+use Rattle.std.proofs.lemmas.List.Sorted.{IsPermutation-sym, Contains-permutation}
+use Rattle.std.proofs.lemmas.Map.Keys.{IsStrictlyIncreasing-dedup}
 
 -- numbers that rise, with a number at its place: it isn't put there twice
 abbrev pub inserted_number : ℕ → List ℕ → List ℕ
@@ -154,3 +159,101 @@ same_rising (a ∷ others) (b ∷ more) rise rise_too same =
 pub list_is_rising : (numbers list : List ℕ) → AreRising list → ((number : ℕ) → has_number number list ≡ has_number number numbers) → list ≡ rising_numbers numbers
 list_is_rising numbers list rise same =
     same_rising list (rising_numbers numbers) rise (rising_numbers_rise numbers) (λ number. same number ∙ sym (has_rising_number number numbers))
+
+-- one more number at the end of the list goes to its place
+pub rising_numbers_push : (numbers : List ℕ) (number : ℕ) → rising_numbers (numbers ++ number ∷ []) ≡ inserted_number number (rising_numbers numbers)
+unfolding rising_numbers
+rising_numbers_push numbers number =
+    same_rising (rising_numbers (numbers ++ number ∷ [])) (rising_numbers (number ∷ numbers)) (rising_numbers_rise (numbers ++ number ∷ [])) (rising_numbers_rise (number ∷ numbers))
+    (λ wanted. has_rising_number wanted (numbers ++ number ∷ []) ∙ has_pushed wanted number numbers ∙ sym (has_rising_number wanted (number ∷ numbers)))
+  where
+    has_pushed : (wanted number : ℕ) (numbers : List ℕ) → has_number wanted (numbers ++ number ∷ []) ≡ has_number wanted (number ∷ numbers)
+    has_pushed wanted number [] = refl
+    has_pushed wanted number (first ∷ rest) =
+        ap (λ has. first == wanted || has) (has_pushed wanted number rest) ∙ or_other (first == wanted) (number == wanted) (has_number wanted rest)
+
+-- ---- in the words of the library
+
+increasing_rise : (low : ℕ) (numbers : List ℕ) → IsStrictlyIncreasing (low ∷ numbers) → RiseAbove low numbers
+increasing_rise low [] rise = tt
+increasing_rise low (number ∷ numbers) rise = (
+  rise 0 (omega arith),
+  increasing_rise number numbers
+      (λ k inside.
+      let one_more : suc k + 1 ≡ suc (k + 1) = omega arith in
+      let P : ℕ → Type 0 = λ i. get_or (number ∷ numbers) k 0 < get_or (low ∷ number ∷ numbers) i 0 in
+      subst P one_more (rise (suc k) (omega (arith, inside)))),
+)
+
+increasing_rising : (numbers : List ℕ) → IsStrictlyIncreasing numbers → AreRising numbers
+increasing_rising [] rise = tt
+increasing_rising (number ∷ numbers) rise = increasing_rise number numbers rise
+
+pub has_contained : (number : ℕ) (numbers : List ℕ) → Contains numbers number → has_number number numbers ≡ true
+has_contained number numbers contains = found numbers contains.0 contains.1 contains.2
+  where
+    or_true : (first rest : Bool) → rest ≡ true → (first || rest) ≡ true
+    or_true true rest is = refl
+    or_true false rest is = is
+
+    found : (numbers : List ℕ) (k : ℕ) → k < length numbers → get_or numbers k number ≡ number → has_number number numbers ≡ true
+    found [] k inside is = absurd (omega (arith, inside))
+    found (first ∷ rest) zero inside is = ap (λ same. same || has_number number rest) ((Decides-eqb first number).1 is)
+    found (first ∷ rest) (suc k) inside is = or_true (first == number) (has_number number rest) (found rest k (omega (arith, inside)) is)
+
+pub contained_has : (number : ℕ) (numbers : List ℕ) → has_number number numbers ≡ true → Contains numbers number
+contained_has number [] has = absurd cc
+contained_has number (first ∷ rest) has = tested (first == number) refl has (λ later. contained_has number rest later)
+  where
+    tested : (same : Bool) → (first == number) ≡ same → (same || has_number number rest) ≡ true → (has_number number rest ≡ true → Contains rest number) → Contains (first ∷ rest) number
+    tested true is has behind = (0, omega arith, (Decides-eqb first number).0 is)
+    tested false is has behind = let place = behind has in (suc place.0, omega (arith, place.1), place.2)
+
+both_or_neither : (first second : Bool) → (first ≡ true → second ≡ true) → (second ≡ true → first ≡ true) → first ≡ second
+both_or_neither true second to back = sym (to refl)
+both_or_neither false true to back = back refl
+both_or_neither false false to back = refl
+
+-- a strictly increasing list with the same members
+pub increasing_is_rising : (numbers list : List ℕ) → IsStrictlyIncreasing list → ((number : ℕ) → Contains list number → Contains numbers number) → ((number : ℕ) → Contains numbers number → Contains list number)
+    → list ≡ rising_numbers numbers
+increasing_is_rising numbers list rise within all =
+    list_is_rising numbers list (increasing_rising list rise)
+    (λ number. both_or_neither (has_number number list) (has_number number numbers)
+    (λ has. has_contained number numbers (within number (contained_has number list has)))
+    (λ has. has_contained number list (all number (contained_has number numbers has))))
+
+-- what a sort and then a removal of repeats leave
+pub deduped_is_rising : (numbers sorted : List ℕ) → IsSorted nat_cmp sorted → IsPermutation numbers sorted → dedup eqb sorted ≡ rising_numbers numbers
+deduped_is_rising numbers sorted rise moves =
+    increasing_is_rising numbers (dedup eqb sorted) (IsStrictlyIncreasing-dedup sorted rise)
+    (λ number contains. Contains-permutation sorted numbers number (IsPermutation-sym numbers sorted moves) (Contains-from_dedup eqb sorted number contains))
+    (λ number contains. Contains-dedup_nat sorted number (Contains-permutation numbers sorted number moves contains))
+
+rise_increasing : (low : ℕ) (numbers : List ℕ) → RiseAbove low numbers → (k : ℕ) → k + 1 < length (low ∷ numbers) → get_or (low ∷ numbers) k 0 < get_or (low ∷ numbers) (k + 1) 0
+rise_increasing low [] rise k inside = absurd (omega (arith, inside))
+rise_increasing low (number ∷ numbers) rise zero inside = rise.0
+rise_increasing low (number ∷ numbers) rise (suc k) inside =
+    let one_more : suc (k + 1) ≡ suc k + 1 = omega arith in
+    let P : ℕ → Type 0 = λ i. get_or (number ∷ numbers) k 0 < get_or (low ∷ number ∷ numbers) i 0 in
+    subst P one_more (rise_increasing number numbers rise.1 k (omega (arith, inside)))
+
+rising_increasing : (numbers : List ℕ) → AreRising numbers → IsStrictlyIncreasing numbers
+rising_increasing [] rise = λ k inside. absurd (omega (arith, inside))
+rising_increasing (number ∷ numbers) rise = λ k inside. rise_increasing number numbers rise k inside
+
+-- the rising numbers of a list are strictly increasing, and have the list's members
+pub record AreRisingNumbersOf (numbers list : List ℕ) : Type 0 where
+  pub increasing : IsStrictlyIncreasing list
+  pub within : (number : ℕ) → Contains list number → Contains numbers number
+  pub all : (number : ℕ) → Contains numbers number → Contains list number
+
+abbrev pub RisingNumbersLaw : Type 0
+RisingNumbersLaw = (numbers : List ℕ) → AreRisingNumbersOf numbers (rising_numbers numbers)
+
+pub rising_numbers_law : RisingNumbersLaw
+rising_numbers_law numbers = record {
+  increasing = rising_increasing (rising_numbers numbers) (rising_numbers_rise numbers);
+  within = λ number contains. contained_has number numbers (sym (has_rising_number number numbers) ∙ has_contained number (rising_numbers numbers) contains);
+  all = λ number contains. contained_has number (rising_numbers numbers) (has_rising_number number numbers ∙ has_contained number numbers contains);
+}

@@ -1,10 +1,11 @@
 -- What the definitions say of the small image, worked out by hand.
-use Rattle.std.specs.Prelude.{◌≡◌, false, List, [], ◌∷◌, length, take, slice_set, Some, None, Ok, Err, refl}
+use Rattle.std.specs.Prelude.{◌≡◌, ℕ, false, List, [], ◌∷◌, length, take, slice_set, Some, None, Ok, Err, refl}
 use Rattle.std.specs.Int.Count.{ones}
 use Rattle.image_defs.specs.Bytes.{part}
 use Rattle.image_defs.specs.Ask.{run, visits}
 use Rattle.image_defs.specs.Numbers.{little_at, little_signed_at}
 use Rattle.range_defs.specs.declared.Range.{Range}
+use Rattle.rx_ranges.specs.declared.pieces.Piece.{Piece}
 use Rattle.rx_ranges.specs.declared.pieces.PieceKind.TheVariants.{Disk}
 use Rattle.rx_tree.specs.declared.part.Role.TheVariants.{Content}
 use Rattle.rx_tree.specs.declared.file.Kind.TheVariants.{File, Dir}
@@ -48,35 +49,43 @@ entries_t : entries_of (part image_t 81920 512) ≡ Ok (
 unfolding image_t part entries_from entries_within is_entry little_at
 entries_t = refl
 
+-- the root, of one piece and its slack
+abbrev pub found_root : FileEntry
+found_root = record {
+  id = record { volume = 0; number = 2 };
+  kind = Dir;
+  names = (47 ∷ []) ∷ [];
+  parts = record {
+    role = Content;
+    name = [];
+    size = 512;
+    pieces = record { from = 0; len = 512; kind = Disk; at = 81920 } ∷ [];
+    slack = record { at = 82432; len = 3584 } ∷ [];
+    unreadable = false;
+  } ∷ [];
+}
+
+-- a file with these names and this content
+abbrev pub found_file : ℕ → List (List ℕ) → ℕ → List Piece → List Range → FileEntry
+found_file number names size pieces slack = record {
+  id = record { volume = 0; number = number };
+  kind = File;
+  names = names;
+  parts = record {
+    role = Content;
+    name = [];
+    size = size;
+    pieces = pieces;
+    slack = slack;
+    unreadable = false;
+  } ∷ [];
+}
+
 -- the root, and the file "a" of three bytes
 abbrev pub files_t : List FileEntry
 files_t =
-    record {
-      id = record { volume = 0; number = 2 };
-      kind = Dir;
-      names = (47 ∷ []) ∷ [];
-      parts = record {
-        role = Content;
-        name = [];
-        size = 512;
-        pieces = record { from = 0; len = 512; kind = Disk; at = 81920 } ∷ [];
-        slack = record { at = 82432; len = 3584 } ∷ [];
-        unreadable = false;
-      } ∷ [];
-    }
-    ∷ record {
-      id = record { volume = 0; number = 3 };
-      kind = File;
-      names = (47 ∷ 97 ∷ []) ∷ [];
-      parts = record {
-        role = Content;
-        name = [];
-        size = 3;
-        pieces = record { from = 0; len = 3; kind = Disk; at = 86016 } ∷ [];
-        slack = record { at = 86019; len = 4093 } ∷ [];
-        unreadable = false;
-      } ∷ [];
-    }
+    found_root
+    ∷ found_file 3 ((47 ∷ 97 ∷ []) ∷ []) 3 (record { from = 0; len = 3; kind = Disk; at = 86016 } ∷ []) (record { at = 86019; len = 4093 } ∷ [])
     ∷ []
 
 pub run_t : run image_t (first_files 262144) ≡ Ok files_t
