@@ -1,24 +1,20 @@
 -- What the reading of an image answers at each of its ends.
 use Rattle.std.proofs.Common.{◌≡◌, ℕ, true, false, Option, Some, None, IfSome, Result, Ok, Err, List, [], ◌∷◌, length, ap, sym, ◌∙◌}
+use Rattle.std.specs.List.{list_all}
 use Rattle.std.specs.Result.{IsErr, IsErrAnd}
 use Rattle.range_defs.specs.Places.{covers, longest_ranges}
-use Rattle.image_defs.specs.Bytes.{part}
-use Rattle.image_defs.specs.Ask.{run}
+use Rattle.image_defs.specs.Ask.{run, each}
 use Rattle.rx_tree.specs.FoundTree.{FoundTree}
+use Rattle.rx_tree.specs.declared.file.FileEntry.{FileEntry}
 use Rattle.ufs_defs.specs.Directory.{Entry, entries_of}
-use Rattle.ufs_defs.specs.Blocks.{first_block}
 use Rattle.ufs_defs.specs.declared.superblock.Superblock.{Superblock}
 use Rattle.ufs_defs.specs.declared.inode.Inode.{Inode}
-use Rattle.volume_defs.specs.FirstForm.{NotFirstForm, NamedInode, is_first_length, is_first_inode, is_first_entry, first_superblock, first_root, first_file, listed, files_of}
+use Rattle.volume_defs.specs.FirstForm.{NotFirstForm, is_first_length, is_first_inode, is_first_entry, first_superblock, first_root, first_file, listed, named_inodes, root_file}
 use Rattle.volume_defs.specs.FirstTree.{first_tree, tree_of}
-use Rattle.volume_defs.specs.FirstRanges.{IsVolume, first_ranges, the_one, the_one_is, found_tree, no_length_tree, no_kind_tree, no_superblock_tree, kind_holds, no_root_tree, no_entry_tree, no_file_tree}
+use Rattle.volume_defs.specs.FirstRanges.{IsVolume, first_ranges, found_tree, no_length_tree, no_kind_tree, no_superblock_tree, kind_holds, no_root_tree, no_entries_tree, bad_entry_tree, no_file_tree}
 use Rattle.redact_cmd.specs.Stages.{Gives, Refuses, first_kind_of}
 use Rattle.redact_cmd.specs.declared.status.Status.{Status}
-use Rattle.redact_cmd.proofs.Told.{told_then, gives_refusal, entries_read, found_from}
-
--- what the content of the root says
-abbrev pub ReadsContent : Superblock → Inode → List ℕ → List ℕ → Type 0
-ReadsContent superblock root content image = content ≡ part image (first_block superblock root) root.size
+use Rattle.redact_cmd.proofs.Told.{ReadsContent, HasEntries, told_then, gives_refusal, entries_read}
 
 -- an image of so many bytes
 abbrev pub OfLength : ℕ → (List ℕ → Type 0) → List ℕ → Type 0
@@ -60,43 +56,50 @@ root_wrong None size superblock result status err passed refuses = tt
 root_wrong (Some image) size superblock result status err passed refuses =
     λ same volume. gives_refusal result status (run image (first_root size superblock)) (first_tree image) err passed (no_root_tree image size superblock same volume) refuses
 
-pub entry_wrong : (told later : Option (List ℕ)) (size : ℕ) (superblock : Superblock) (root : Inode) (content slice : List ℕ) (result : Result FoundTree Status) (status : Status)
+pub entries_wrong : (told later : Option (List ℕ)) (size : ℕ) (superblock : Superblock) (root : Inode) (content slice : List ℕ) (result : Result FoundTree Status) (status : Status)
     → IsErr result → IsErrAnd result (λ other. other ≡ status) → later ≡ told → slice ≡ content
     → IfSome told (λ image. run image (first_root size superblock) ≡ Ok root) → IfSome later (ReadsContent superblock root content)
-    → Refuses status (the_one (listed (entries_of slice))) → IfSome told (OfVolume size superblock (λ image. Gives result (first_tree image)))
-entry_wrong None later size superblock root content slice result status err passed is of_slice of_root of_content refuses = tt
-entry_wrong (Some image) later size superblock root content slice result status err passed is of_slice of_root of_content refuses =
-    λ same volume. gives_refusal result status (the_one (listed (entries_of slice))) (first_tree image) err passed
-    (λ none. no_entry_tree image size superblock root same volume of_root
-    (ap the_one (entries_read image content slice superblock root of_slice (told_then (ReadsContent superblock root content) image later is of_content)) ∙ none))
+    → Refuses status (listed (entries_of slice)) → IfSome told (OfVolume size superblock (λ image. Gives result (first_tree image)))
+entries_wrong None later size superblock root content slice result status err passed is of_slice of_root of_content refuses = tt
+entries_wrong (Some image) later size superblock root content slice result status err passed is of_slice of_root of_content refuses =
+    λ same volume. gives_refusal result status (listed (entries_of slice)) (first_tree image) err passed
+    (λ none. no_entries_tree image size superblock root same volume of_root
+    (entries_read image content slice superblock root of_slice (told_then (ReadsContent superblock root content) image later is of_content) ∙ none))
     refuses
 
-pub file_wrong : (told later last : Option (List ℕ)) (size : ℕ) (superblock : Superblock) (root : Inode) (content slice : List ℕ) (entry : Entry) (result : Result FoundTree Status) (status : Status)
-    → IsErr result → IsErrAnd result (λ other. other ≡ status) → later ≡ told → last ≡ told → slice ≡ content
-    → IfSome told (λ image. run image (first_root size superblock) ≡ Ok root) → IfSome later (ReadsContent superblock root content)
-    → the_one (listed (entries_of slice)) ≡ Ok entry → IfSome last (λ image. Refuses status (run image (first_file size superblock entry)))
-    → IfSome told (OfVolume size superblock (λ image. Gives result (first_tree image)))
-file_wrong None later last size superblock root content slice entry result status err passed is too of_slice of_root of_content one refuses = tt
-file_wrong (Some image) later last size superblock root content slice entry result status err passed is too of_slice of_root of_content one refuses =
-    λ same volume. gives_refusal result status (run image (first_file size superblock entry)) (first_tree image) err passed
-    (no_file_tree image size superblock root entry same volume of_root
-    (entries_read image content slice superblock root of_slice (told_then (ReadsContent superblock root content) image later is of_content)
-    ∙ the_one_is (listed (entries_of slice)) entry one))
-    (told_then (λ image. Refuses status (run image (first_file size superblock entry))) image last too refuses)
+pub name_wrong : (told : Option (List ℕ)) (size : ℕ) (superblock : Superblock) (root : Inode) (entries : List Entry) → IfSome told (HasEntries size superblock root entries) → list_all is_first_entry entries ≡ false
+    → IfSome told (OfVolume size superblock (λ image. first_tree image ≡ Err NotFirstForm))
+name_wrong None size superblock root entries has bad = tt
+name_wrong (Some image) size superblock root entries has bad = λ same volume. bad_entry_tree image size superblock root entries same volume has.0 has.1 bad
 
-pub tree_found : (told later last : Option (List ℕ)) (size : ℕ) (superblock : Superblock) (root : Inode) (content slice : List ℕ) (entry : Entry) (named : NamedInode) (tree : FoundTree)
-    → later ≡ told → last ≡ told → slice ≡ content
-    → IfSome told (λ image. run image (first_root size superblock) ≡ Ok root) → IfSome later (ReadsContent superblock root content)
-    → the_one (listed (entries_of slice)) ≡ Ok entry → IfSome last (λ image. run image (first_file size superblock entry) ≡ Ok named)
-    → named.entry ≡ entry → is_first_inode size superblock 2 ≡ true → is_first_entry entry ≡ true → is_first_inode size superblock entry.inode ≡ true
-    → tree ≡ tree_of size (longest_ranges (covers (first_ranges superblock root named.entry.inode)) 0 size) (files_of superblock root (named ∷ []))
+pub files_wrong : (told later : Option (List ℕ)) (size : ℕ) (superblock : Superblock) (root : Inode) (entries : List Entry) (numbers : List ℕ) (result : Result FoundTree Status) (status : Status)
+    → IsErr result → IsErrAnd result (λ other. other ≡ status) → later ≡ told → IfSome told (HasEntries size superblock root entries) → list_all is_first_entry entries ≡ true → numbers ≡ named_inodes entries
+    → IfSome later (λ image. Refuses status (run image (each (first_file size superblock entries) numbers)))
+    → IfSome told (OfVolume size superblock (λ image. Gives result (first_tree image)))
+files_wrong None later size superblock root entries numbers result status err passed is has named are refuses = tt
+files_wrong (Some image) later size superblock root entries numbers result status err passed is has named are refuses =
+    λ same volume. gives_refusal result status (run image (each (first_file size superblock entries) numbers)) (first_tree image) err passed
+    (λ none. no_file_tree image size superblock root entries same volume has.0 has.1 named (ap (λ list. run image (each (first_file size superblock entries) list)) (sym are) ∙ none))
+    (told_then (λ held. Refuses status (run held (each (first_file size superblock entries) numbers))) image later is refuses)
+
+pub tree_found : (told later : Option (List ℕ)) (size : ℕ) (superblock : Superblock) (root : Inode) (entries : List Entry) (numbers : List ℕ) (files : List FileEntry) (tree : FoundTree)
+    → later ≡ told → IfSome told (HasEntries size superblock root entries) → list_all is_first_entry entries ≡ true → numbers ≡ named_inodes entries → is_first_inode size superblock 2 ≡ true
+    → IfSome later (λ image. run image (each (first_file size superblock entries) numbers) ≡ Ok files)
+    → tree ≡ tree_of size (longest_ranges (covers (first_ranges superblock root numbers)) 0 size) (root_file superblock root ∷ files)
     → IfSome told (OfVolume size superblock (λ image. first_tree image ≡ Ok tree))
-tree_found None later last size superblock root content slice entry named tree is too of_slice of_root of_content one of_file has_entry has_root has_name has_inode made = tt
-tree_found (Some image) later last size superblock root content slice entry named tree is too of_slice of_root of_content one of_file has_entry has_root has_name has_inode made =
+tree_found None later size superblock root entries numbers files tree is has named are has_root of_files made = tt
+tree_found (Some image) later size superblock root entries numbers files tree is has named are has_root of_files made =
     λ same volume.
-    found_tree image size superblock root named same
-    (found_from image size superblock root entry named volume of_root
-    (entries_read image content slice superblock root of_slice (told_then (ReadsContent superblock root content) image later is of_content)
-    ∙ the_one_is (listed (entries_of slice)) entry one)
-    has_entry (told_then (λ image. run image (first_file size superblock entry) ≡ Ok named) image last too of_file) has_root has_name has_inode)
+    found_tree image size superblock root entries files same
+    (record {
+      volume = volume;
+      has_root = has_root;
+      read_root = has.0;
+      read_entries = has.1;
+      good_entries = named;
+      read_files =
+          ap (λ list. run image (each (first_file size superblock entries) list)) (sym are)
+          ∙ told_then (λ held. run held (each (first_file size superblock entries) numbers) ≡ Ok files) image later is of_files;
+    })
+    ∙ ap (λ list. Ok (tree_of size (longest_ranges (covers (first_ranges superblock root list)) 0 size) (root_file superblock root ∷ files))) (sym are)
     ∙ ap Ok (sym made)

@@ -1,69 +1,26 @@
--- What the reading of an image rests on.
-use Rattle.std.proofs.Common.{◌≡◌, ℕ, ◌+◌, ◌%◌, ◌<◌, ◌≤◌, Bool, true, false, ◌&&◌, ◌||◌, ◌==◌, nat_le, if◌then◌else◌, Ok, Err, List, [], ◌∷◌, ◌++◌, length, refl, sym, ap, subst, ◌∙◌, append-nil, arith}
-use Rattle.std.proofs.lemmas.Bool.{le-leb}
+-- What the tests of the first form make sure of.
+use Rattle.std.proofs.Common.{◌≡◌, ℕ, ◌+◌, ◌*◌, ◌/◌, ◌%◌, ◌<◌, ◌≤◌, true, false, ◌&&◌, ◌==◌, nat_le, List, [], ◌∷◌, ◌++◌, sym, ap, subst, ◌∙◌, arith, ⊎_elim}
+use Rattle.std.specs.Int.{div_ceil}
+use Rattle.std.specs.List.{All}
+use Rattle.std.proofs.Math.Nat.{mul-le-mul_right}
+use Rattle.std.proofs.lemmas.Bool.{cases_lt, leb-true, le-leb}
 use Rattle.std.proofs.lemmas.Bool.Decides.{Decides-eqb}
-use Rattle.ufs_defs.specs.Signed.{counted}
-use Rattle.ufs_defs.specs.Inode.{is_directory}
-use Rattle.ufs_defs.specs.Directory.{Entry, is_entry, entry_of, entries_of, record_length, leads_on, leading_entries}
-use Rattle.ufs_defs.specs.Entries.{IsWalkedTo, walk_starts, walk_goes_on, walk_ends, walk_stops, entry-len, entry-inside}
+use Rattle.std.proofs.lemmas.Grind.{div_ceil_times}
+use Rattle.std.proofs.lemmas.List.Elements.{All-weaker}
+use Rattle.range_defs.specs.declared.Range.{Range}
+use Rattle.range_defs.specs.Places.{EndsInReach}
+use Rattle.rx_ranges.specs.declared.pieces.Piece.{Piece}
+use Rattle.rx_tree.specs.Covering.{goes_on}
+use Rattle.ufs_defs.specs.Inode.{is_directory, is_file}
+use Rattle.ufs_defs.specs.Joined.{grown}
+use Rattle.ufs_defs.specs.Blocks.{block_size, block_count, block_piece, content_slack}
+use Rattle.ufs_defs.specs.BlockLaws.{AreBlocksWithin, block_begins, AreJoinedTo, joining_grows, joining_begins_anew}
+use Rattle.ufs_defs.specs.SlackLaws.{content_slack_within}
 use Rattle.ufs_defs.specs.declared.superblock.Superblock.{Superblock}
 use Rattle.ufs_defs.specs.declared.inode.Inode.{Inode}
-use Rattle.volume_defs.specs.FirstForm.{NotFirstForm, listed, is_first_superblock, is_first_root, is_plain, has_first_block, is_small_file}
-use Rattle.volume_defs.specs.FirstKept.{both_hold, first_superblock_sound, root_small, file_small}
-
-leading_entries-append : (found : List Entry) (entry : Entry) → leading_entries (found ++ entry ∷ []) ≡ leading_entries found ++ leading_entries (entry ∷ [])
-leading_entries-append [] entry = refl
-leading_entries-append (first ∷ found) entry = first_or_not (leads_on first) (leading_entries-append found entry)
-  where
-    first_or_not : (leads : Bool) → leading_entries (found ++ entry ∷ []) ≡ leading_entries found ++ leading_entries (entry ∷ [])
-        → (if leads then first ∷ leading_entries (found ++ entry ∷ []) else leading_entries (found ++ entry ∷ [])) ≡ (if leads then first ∷ leading_entries found else leading_entries found) ++ leading_entries (entry ∷ [])
-    first_or_not true same = ap (λ entries. first ∷ entries) same
-    first_or_not false same = same
-
--- the entries that lead to files, of those that a walk over the content passed
-pub record HasPassed (content : List ℕ) (leading : List Entry) (at : ℕ) : Type 0 where
-  pub passed : List Entry
-  pub walked : IsWalkedTo content passed at
-  pub leads : leading ≡ leading_entries passed
-
-pub passed_none : (content : List ℕ) → HasPassed content [] 0
-passed_none content = record { passed = []; walked = walk_starts content; leads = refl }
-
-pub passed_leading : (content : List ℕ) (leading more : List Entry) (at len : ℕ) → HasPassed content leading at → at < length content → is_entry content at ≡ true
-    → leads_on (entry_of content at) ≡ true → more ≡ leading ++ entry_of content at ∷ [] → len ≡ record_length content at → HasPassed content more (at + len)
-passed_leading content leading more at len before inside entry leads pushed behind = record {
-  passed = before.passed ++ entry_of content at ∷ [];
-  walked =
-      let P : ℕ → Type 0 = λ n. IsWalkedTo content (before.passed ++ entry_of content at ∷ []) (at + n) in
-      subst P (sym behind) (walk_goes_on content before.passed at before.walked inside entry);
-  leads =
-      pushed
-      ∙ ap (λ entries. entries ++ entry_of content at ∷ []) before.leads
-      ∙ ap (λ b. leading_entries before.passed ++ (if b then entry_of content at ∷ [] else [])) (sym leads)
-      ∙ sym (leading_entries-append before.passed (entry_of content at));
-}
-
-pub passed_other : (content : List ℕ) (leading : List Entry) (at len : ℕ) → HasPassed content leading at → at < length content → is_entry content at ≡ true
-    → leads_on (entry_of content at) ≡ false → len ≡ record_length content at → HasPassed content leading (at + len)
-passed_other content leading at len before inside entry leads behind = record {
-  passed = before.passed ++ entry_of content at ∷ [];
-  walked =
-      let P : ℕ → Type 0 = λ n. IsWalkedTo content (before.passed ++ entry_of content at ∷ []) (at + n) in
-      subst P (sym behind) (walk_goes_on content before.passed at before.walked inside entry);
-  leads =
-      before.leads ∙ sym (append-nil (leading_entries before.passed))
-      ∙ ap (λ b. leading_entries before.passed ++ (if b then entry_of content at ∷ [] else [])) (sym leads)
-      ∙ sym (leading_entries-append before.passed (entry_of content at));
-}
-
-pub passed_all : (content : List ℕ) (leading : List Entry) (at : ℕ) → HasPassed content leading at → length content ≤ at → listed (entries_of content) ≡ Ok leading
-passed_all content leading at before past =
-    ap listed (walk_ends content before.passed at before.walked past) ∙ ap Ok (sym before.leads)
-
-pub passed_no_entry : (content : List ℕ) (leading : List Entry) (at : ℕ) → HasPassed content leading at → at < length content → is_entry content at ≡ false
-    → listed (entries_of content) ≡ Err NotFirstForm
-passed_no_entry content leading at before inside none =
-    ap listed (walk_stops content before.passed at before.walked inside none)
+use Rattle.volume_defs.specs.FirstForm.{is_first_superblock, is_first_root, is_first_file, is_plain, has_block, has_blocks}
+use Rattle.volume_defs.specs.FirstKept.{both_hold, first_superblock_sound, first_block_size, has_block_within, has_blocks_each, has_blocks_none, has_blocks_next}
+use Rattle.redact_cmd.specs.Content.{has_content}
 
 -- there are inodes in a group and in a block
 pub some_in_group : (superblock : Superblock) → is_first_superblock superblock ≡ true → 0 < superblock.ipg
@@ -74,62 +31,121 @@ some_in_block superblock first =
     let sound = first_superblock_sound superblock first in
     omega (arith, sound.inodes_in_block, sound.least_block)
 
--- what holds of the root of an image of the first form
-pub root_has_first_block : (size : ℕ) (superblock : Superblock) (root : Inode) → is_first_root size superblock root ≡ true → has_first_block size superblock root ≡ true
-unfolding is_first_root
-root_has_first_block size superblock root first =
-    let sizes = root.size % 512 == 0 && (nat_le 512 root.size && nat_le root.size (counted superblock.bsize)) in
-    let plain = both_hold (is_directory root) (is_plain root && (sizes && has_first_block size superblock root)) first in
-    let fits = both_hold (is_plain root) (sizes && has_first_block size superblock root) plain.1 in
-    (both_hold sizes (has_first_block size superblock root) fits.1).1
-
-root_sizes : (size : ℕ) (superblock : Superblock) (root : Inode) → is_first_root size superblock root ≡ true
-    → (root.size % 512 == 0 && (nat_le 512 root.size && nat_le root.size (counted superblock.bsize))) ≡ true
-unfolding is_first_root
-root_sizes size superblock root first =
-    let sizes = root.size % 512 == 0 && (nat_le 512 root.size && nat_le root.size (counted superblock.bsize)) in
-    let plain = both_hold (is_directory root) (is_plain root && (sizes && has_first_block size superblock root)) first in
-    let fits = both_hold (is_plain root) (sizes && has_first_block size superblock root) plain.1 in
-    (both_hold sizes (has_first_block size superblock root) fits.1).0
-
-pub root_fits_block : (size : ℕ) (superblock : Superblock) (root : Inode) → is_first_root size superblock root ≡ true → root.size ≤ counted superblock.bsize
-root_fits_block size superblock root first = (root_small size superblock root first).fits
-
-pub root_whole : (size : ℕ) (superblock : Superblock) (root : Inode) → is_first_root size superblock root ≡ true → root.size % 512 ≡ 0
-root_whole size superblock root first =
-    (Decides-eqb (root.size % 512) 0).0 (both_hold (root.size % 512 == 0) (nat_le 512 root.size && nat_le root.size (counted superblock.bsize)) (root_sizes size superblock root first)).0
-
--- what holds of a file of at most one block in the image
-pub small_fits_block : (size : ℕ) (superblock : Superblock) (inode : Inode) → is_small_file size superblock inode ≡ true → inode.size ≤ counted superblock.bsize
-small_fits_block size superblock inode small = (file_small size superblock inode small).fits
-
-pub small_has_first_block : (size : ℕ) (superblock : Superblock) (inode : Inode) → is_small_file size superblock inode ≡ true → 0 < inode.size → has_first_block size superblock inode ≡ true
-unfolding is_small_file
-small_has_first_block size superblock inode small some =
-    other (inode.size == 0) (has_first_block size superblock inode) (both_hold (nat_le inode.size (counted superblock.bsize)) (inode.size == 0 || has_first_block size superblock inode) small).1
-    (λ none. absurd (omega (arith, (Decides-eqb inode.size 0).0 none)))
-  where
-    other : (a b : Bool) → (a || b) ≡ true → (a ≡ true → b ≡ true) → b ≡ true
-    other true b either follows = follows refl
-    other false b either follows = either
-
--- the root is such a file
-pub root_is_small : (size : ℕ) (superblock : Superblock) (root : Inode) → is_first_root size superblock root ≡ true → is_small_file size superblock root ≡ true
-unfolding is_small_file
-root_is_small size superblock root first =
-    rw (le-leb root.size (counted superblock.bsize) (root_fits_block size superblock root first), root_has_first_block size superblock root first) (or_true (root.size == 0))
-  where
-    or_true : (a : Bool) → (true && (a || true)) ≡ true
-    or_true true = refl
-    or_true false = refl
-
 -- the bytes of a block
-pub greatest_block : (superblock : Superblock) → is_first_superblock superblock ≡ true → counted superblock.bsize ≤ 65536
+pub greatest_block : (superblock : Superblock) → is_first_superblock superblock ≡ true → block_size superblock ≤ 65536
 greatest_block superblock first = (first_superblock_sound superblock first).greatest_block
 
-pub least_block : (superblock : Superblock) → is_first_superblock superblock ≡ true → 4096 ≤ counted superblock.bsize
+pub least_block : (superblock : Superblock) → is_first_superblock superblock ≡ true → 4096 ≤ block_size superblock
 least_block superblock first = (first_superblock_sound superblock first).least_block
 
--- an entry of a whole content has place for the fields in front of its name
-pub entry_head : (content : List ℕ) (at : ℕ) → length content % 512 ≡ 0 → at < length content → is_entry content at ≡ true → at + 8 ≤ length content
-entry_head content at whole inside entry = omega (arith, entry-len content at entry, entry-inside content at whole inside entry)
+-- ---- a content
+
+-- a size of at most so many blocks
+blocks_at_most : (size unit most : ℕ) → 0 < unit → size ≤ most * unit → div_ceil size unit ≤ most
+blocks_at_most size unit most some short =
+    ⊎_elim
+    (λ more.
+    let all : (most + 1) * unit ≤ div_ceil size unit * unit = mul-le-mul_right unit (omega (arith, more)) in
+    let next : (most + 1) * unit ≡ most * unit + unit = omega arith in
+    absurd (omega (arith, all, next, short, (div_ceil_times size unit some).1)))
+    (λ few. few)
+    (cases_lt most (div_ceil size unit))
+
+pub twelve_blocks : (size unit : ℕ) → 0 < unit → size ≤ 12 * unit → div_ceil size unit ≤ 12
+twelve_blocks size unit some short = blocks_at_most size unit 12 some short
+
+pub content_short : (size : ℕ) (superblock : Superblock) (inode : Inode) → has_content size superblock inode ≡ true → inode.size ≤ 12 * block_size superblock
+unfolding has_content
+content_short size superblock inode content = leb-true inode.size (12 * block_size superblock) (both_hold (nat_le inode.size (12 * block_size superblock)) _ content).0
+
+-- each of its blocks lies in the image
+pub content_has_block : (size : ℕ) (superblock : Superblock) (inode : Inode) (block : ℕ) → has_content size superblock inode ≡ true → block < block_count superblock inode → has_block size superblock inode block ≡ true
+unfolding has_content
+content_has_block size superblock inode block content below =
+    has_blocks_each size superblock inode (block_count superblock inode) block (both_hold (nat_le inode.size (12 * block_size superblock)) _ content).1 below
+
+content_blocks_within : (size : ℕ) (superblock : Superblock) (inode : Inode) → has_content size superblock inode ≡ true → AreBlocksWithin size superblock inode
+content_blocks_within size superblock inode content = λ block below. has_block_within size superblock inode block (content_has_block size superblock inode block content below)
+
+-- the number of a block is below twelve, and the block begins in the content
+pub block_below_twelve : (size : ℕ) (superblock : Superblock) (inode : Inode) (block : ℕ) → is_first_superblock superblock ≡ true → has_content size superblock inode ≡ true → block < block_count superblock inode → block < 12
+block_below_twelve size superblock inode block first content below =
+    omega (arith, below, twelve_blocks inode.size (block_size superblock) (first_block_size superblock first) (content_short size superblock inode content))
+
+pub block_starts : (superblock : Superblock) (inode : Inode) (block : ℕ) → is_first_superblock superblock ≡ true → block < block_count superblock inode → block * block_size superblock < inode.size
+block_starts superblock inode block first below = block_begins inode.size (block_size superblock) block (first_block_size superblock first) below
+
+-- the block that holds the bytes behind the last whole one
+pub last_block : (size unit : ℕ) → 0 < size % unit → size / unit < div_ceil size unit
+last_block size unit left = omega (arith, left)
+
+-- a walk over the blocks, where the next piece goes on and where it begins anew
+pub next_grows : (superblock : Superblock) (inode : Inode) (done more : List Piece) (begun after next : Piece) (block : ℕ) → AreJoinedTo superblock inode done begun block → block < block_count superblock inode
+    → next ≡ block_piece superblock inode block → goes_on begun next ≡ true → more ≡ done → after ≡ grown begun next → AreJoinedTo superblock inode more after (block + 1)
+next_grows superblock inode done more begun after next block joined below is goes same grew =
+    let P : List Piece → Type 0 = λ pieces. AreJoinedTo superblock inode pieces after (block + 1) in
+    let Q : Piece → Type 0 = λ piece. AreJoinedTo superblock inode done piece (block + 1) in
+    subst P (sym same)
+    (subst Q (sym (grew ∙ ap (λ piece. grown begun piece) is)) (joining_grows superblock inode done begun block joined below (ap (λ piece. goes_on begun piece) (sym is) ∙ goes)))
+
+pub next_begins_anew : (superblock : Superblock) (inode : Inode) (done more : List Piece) (begun after next : Piece) (block : ℕ) → AreJoinedTo superblock inode done begun block → block < block_count superblock inode
+    → next ≡ block_piece superblock inode block → goes_on begun next ≡ false → more ≡ done ++ begun ∷ [] → after ≡ next → AreJoinedTo superblock inode more after (block + 1)
+next_begins_anew superblock inode done more begun after next block joined below is apart pushed begins =
+    let P : List Piece → Type 0 = λ pieces. AreJoinedTo superblock inode pieces after (block + 1) in
+    let Q : Piece → Type 0 = λ piece. AreJoinedTo superblock inode (done ++ begun ∷ []) piece (block + 1) in
+    subst P (sym pushed)
+    (subst Q (sym (begins ∙ is)) (joining_begins_anew superblock inode done begun block joined below (ap (λ piece. goes_on begun piece) (sym is) ∙ apart)))
+
+-- the slack lies in the image
+pub slack_in_reach : (size : ℕ) (superblock : Superblock) (inode : Inode) → size ≤ 70368744177664 → is_first_superblock superblock ≡ true → has_content size superblock inode ≡ true
+    → All EndsInReach (content_slack superblock inode)
+slack_in_reach size superblock inode reach first content =
+    All-weaker (λ (range : Range). range.at + range.len ≤ size) EndsInReach (λ range within. omega (arith, within, reach)) (content_slack superblock inode)
+    (content_slack_within size superblock inode (first_block_size superblock first) (content_blocks_within size superblock inode content))
+
+-- ---- the root and the files have such contents
+
+root_parts : (size : ℕ) (superblock : Superblock) (root : Inode) → is_first_root size superblock root ≡ true
+    → (root.size % 512 ≡ 0) × (512 ≤ root.size) × (root.size ≤ block_size superblock) × (has_block size superblock root 0 ≡ true)
+unfolding is_first_root
+root_parts size superblock root first =
+    let sizes = root.size % 512 == 0 && (nat_le 512 root.size && nat_le root.size (block_size superblock)) in
+    let plain = both_hold (is_directory root) (is_plain root && (sizes && has_block size superblock root 0)) first in
+    let fits = both_hold (is_plain root) (sizes && has_block size superblock root 0) plain.1 in
+    let sizes_and_block = both_hold sizes (has_block size superblock root 0) fits.1 in
+    let whole = both_hold (root.size % 512 == 0) _ sizes_and_block.0 in
+    let bounds = both_hold (nat_le 512 root.size) (nat_le root.size (block_size superblock)) whole.1 in
+    ((Decides-eqb (root.size % 512) 0).0 whole.0, leb-true 512 root.size bounds.0, leb-true root.size (block_size superblock) bounds.1, sizes_and_block.1)
+
+pub root_whole : (size : ℕ) (superblock : Superblock) (root : Inode) → is_first_root size superblock root ≡ true → root.size % 512 ≡ 0
+root_whole size superblock root first = (root_parts size superblock root first).0
+
+pub root_fits_block : (size : ℕ) (superblock : Superblock) (root : Inode) → is_first_root size superblock root ≡ true → root.size ≤ block_size superblock
+root_fits_block size superblock root first = (root_parts size superblock root first).2
+
+pub root_has_block : (size : ℕ) (superblock : Superblock) (root : Inode) → is_first_root size superblock root ≡ true → has_block size superblock root 0 ≡ true
+root_has_block size superblock root first = (root_parts size superblock root first).3
+
+-- a size of one block
+one_block : (size unit : ℕ) → 512 ≤ size → size ≤ unit → div_ceil size unit ≡ 1
+one_block size unit some fits =
+    let few : div_ceil size unit ≤ 1 = blocks_at_most size unit 1 (omega (arith, some, fits)) (omega (arith, fits)) in
+    let all : size ≤ div_ceil size unit * unit = (div_ceil_times size unit (omega (arith, some, fits))).0 in
+    ⊎_elim
+    (λ none. let no_bytes : div_ceil size unit * unit ≡ 0 * unit = ap (λ n. n * unit) (omega (arith, none)) in absurd (omega (arith, all, no_bytes, some)))
+    (λ one. omega (arith, few, one))
+    (cases_lt (div_ceil size unit) 1)
+
+pub root_has_content : (size : ℕ) (superblock : Superblock) (root : Inode) → is_first_root size superblock root ≡ true → has_content size superblock root ≡ true
+unfolding has_content
+root_has_content size superblock root first =
+    let parts = root_parts size superblock root first in
+    let one : block_count superblock root ≡ 0 + 1 = one_block root.size (block_size superblock) parts.1 parts.2 in
+    let has : has_blocks size superblock root (0 + 1) ≡ true = has_blocks_next size superblock root 0 (has_blocks_none size superblock root) parts.3 in
+    let short : nat_le root.size (12 * block_size superblock) ≡ true = le-leb root.size (12 * block_size superblock) (omega (arith, parts.2)) in
+    ap (λ fits. fits && has_blocks size superblock root (block_count superblock root)) short ∙ ap (λ count. has_blocks size superblock root count) one ∙ has
+
+pub file_has_content : (size : ℕ) (superblock : Superblock) (inode : Inode) → is_first_file size superblock inode ≡ true → has_content size superblock inode ≡ true
+unfolding is_first_file has_content
+file_has_content size superblock inode first =
+    (both_hold (is_plain inode) _ (both_hold (is_file inode) _ first).1).1

@@ -8,12 +8,11 @@ use Rattle.ufs_defs.specs.Superblock.{superblock_of}
 use Rattle.ufs_defs.specs.Inode.{inode_place, inode_of}
 use Rattle.ufs_defs.specs.declared.superblock.Superblock.{Superblock}
 use Rattle.ufs_defs.specs.declared.inode.Inode.{Inode}
-use Rattle.volume_defs.specs.FirstForm.{FirstFault, NotFirstForm, NamedInode, is_first_superblock, is_first_inode, is_first_entry, first_superblock, first_inode, first_root, first_entries, first_file, listed}
-use Rattle.volume_defs.specs.FirstRanges.{IsVolume, IsFound}
+use Rattle.volume_defs.specs.FirstForm.{FirstFault, NotFirstForm, is_first_superblock, is_first_inode, first_superblock, first_inode, first_root, first_entries, listed}
 use Rattle.ufs_defs.specs.Directory.{Entry, entries_of}
-use Rattle.ufs_defs.specs.Blocks.{first_block}
+use Rattle.ufs_defs.specs.Blocks.{block_place}
 use Rattle.volume_defs.specs.FirstReader.{run_first_superblock, run_first_superblock_fault, run_first_inode, run_first_entries}
-use Rattle.redact_cmd.specs.Stages.{Gives, Refuses}
+use Rattle.redact_cmd.specs.Stages.{Gives, GivesItems, Refuses}
 use Rattle.redact_cmd.specs.declared.status.Status.{Status}
 use Rattle.redact_cmd.specs.declared.status.Status.TheVariants.{Done, Usage, PlanRefused, DeviceFault, SourceFault, SinkFault, NoMemory, NotBuilt}
 
@@ -71,21 +70,22 @@ pub told_then : (A : List ℕ → Type 0) (image : List ℕ) (later : Option (Li
 told_then A image later same holds = let P : Option (List ℕ) → Type 0 = λ told. IfSome told A in subst P same holds
 
 -- the entries of the root, where its content was read
-pub entries_read : (image content slice : List ℕ) (superblock : Superblock) (root : Inode) → slice ≡ content → content ≡ part image (first_block superblock root) root.size
+pub entries_read : (image content slice : List ℕ) (superblock : Superblock) (root : Inode) → slice ≡ content → content ≡ part image (block_place superblock root 0) root.size
     → run image (first_entries superblock root) ≡ listed (entries_of slice)
 entries_read image content slice superblock root same is =
     run_first_entries image superblock root ∙ ap (λ bytes. listed (entries_of bytes)) (sym (same ∙ is))
 
--- all that was found
-pub found_from : (image : List ℕ) (size : ℕ) (superblock : Superblock) (root : Inode) (entry : Entry) (named : NamedInode) → IsVolume image size superblock
-    → run image (first_root size superblock) ≡ Ok root → run image (first_entries superblock root) ≡ Ok (entry ∷ []) → named.entry ≡ entry → run image (first_file size superblock entry) ≡ Ok named
-    → is_first_inode size superblock 2 ≡ true → is_first_entry entry ≡ true → is_first_inode size superblock entry.inode ≡ true → IsFound image size superblock root named
-found_from image size superblock root entry named volume of_root listing same of_file has_root has_name has_inode = record {
-  volume = volume;
-  read_root = of_root;
-  read_entries = listing ∙ ap (λ e. Ok (e ∷ [])) (sym same);
-  read_file = ap (λ e. run image (first_file size superblock e)) same ∙ of_file;
-  has_root = has_root;
-  has_name = ap is_first_entry same ∙ has_name;
-  has_inode = ap (λ e. is_first_inode size superblock e.inode) same ∙ has_inode;
-}
+-- what is told of the entries of the root: they are those that its content lists
+abbrev pub HasEntries : ℕ → Superblock → Inode → List Entry → List ℕ → Type 0
+HasEntries size superblock root entries image = (run image (first_root size superblock) ≡ Ok root) × (run image (first_entries superblock root) ≡ Ok entries)
+
+-- what the content of the root says
+abbrev pub ReadsContent : Superblock → Inode → List ℕ → List ℕ → Type 0
+ReadsContent superblock root content image = content ≡ part image (block_place superblock root 0) root.size
+
+pub entries_told : (told later : Option (List ℕ)) (size : ℕ) (superblock : Superblock) (root : Inode) (content slice : List ℕ) (entries : List Entry) → later ≡ told → slice ≡ content
+    → IfSome told (λ image. run image (first_root size superblock) ≡ Ok root) → IfSome later (ReadsContent superblock root content) → listed (entries_of slice) ≡ Ok entries
+    → IfSome told (HasEntries size superblock root entries)
+entries_told None later size superblock root content slice entries is same of_root of_content listing = tt
+entries_told (Some image) later size superblock root content slice entries is same of_root of_content listing =
+    (of_root, entries_read image content slice superblock root same (told_then (ReadsContent superblock root content) image later is of_content) ∙ listing)

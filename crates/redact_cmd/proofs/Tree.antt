@@ -1,66 +1,31 @@
 -- What the tree of an image of the first form rests on.
-use Rattle.std.proofs.Common.{◌≡◌, ℕ, zero, suc, ◌+◌, ◌-◌, ◌<◌, ◌≤◌, Bool, true, false, ◌&&◌, ◌==◌, not, nat_le, nat_lt, Result, Ok, Err, IfOk, if◌then◌else◌, List, [], ◌∷◌, refl, sym, ap, ◌∙◌, arith}
-use Rattle.std.proofs.lemmas.Bool.{leb-true}
-use Rattle.std.proofs.lemmas.Bool.Decides.{nat_tests, Decides-eqb}
+use Rattle.std.proofs.Common.{◌≡◌, ℕ, zero, suc, ◌+◌, ◌<◌, ◌≤◌, Bool, true, false, ◌&&◌, ◌==◌, not, nat_le, Result, Ok, Err, IfOk, List, [], ◌∷◌, ◌++◌, IsSorted, refl, sym, ap, subst, ◌∙◌, arith}
+use Rattle.std.specs.Cmp.Lexicographic.{slice_cmp}
+use Rattle.std.specs.Ordering.{nat_cmp}
+use Rattle.std.specs.List.{All, list_all}
+use Rattle.std.specs.Str.{IsUtf8, IsAscii}
+use Rattle.std.proofs.lemmas.Bool.{leb-true, lt-ltb}
+use Rattle.std.proofs.lemmas.Bool.Decides.{nat_tests}
 use Rattle.std.proofs.lemmas.List.Elements.{All-cons, All-nil}
 use Rattle.std.proofs.lemmas.Str.{IsUtf8-from_ascii}
-use Rattle.std.specs.Str.{IsUtf8, IsAscii}
 use Rattle.range_defs.specs.declared.Range.{Range}
 use Rattle.range_defs.specs.Places.{covers, IsRangeList, longest_ranges}
 use Rattle.range_defs.specs.RangeLaws.{same_range_list, same_as_longest_ranges, ends_where_covered}
 use Rattle.image_defs.specs.Guard.{covers-past}
-use Rattle.rx_ranges.specs.declared.pieces.Piece.{Piece}
-use Rattle.rx_tree.specs.FoundPart.{FoundPart}
 use Rattle.rx_tree.specs.FoundTree.{FoundTree}
-use Rattle.rx_tree.specs.Within.{AreRangesWithin, IsWithin}
-use Rattle.rx_tree.specs.declared.part.Role.TheVariants.{Content}
+use Rattle.rx_tree.specs.Order.{StandsBeforeAll, HaveRisingIds}
+use Rattle.rx_tree.specs.Within.{AreRangesWithin, AreFilesWithin, ArePartsWithin, IsWithin}
 use Rattle.rx_tree.specs.declared.file.FileEntry.{FileEntry}
 use Rattle.rx_tree.specs.declared.volume.Volume.{Volume}
-use Rattle.ufs_defs.specs.Signed.{counted}
 use Rattle.ufs_defs.specs.Directory.{Entry}
-use Rattle.ufs_defs.specs.Blocks.{first_block, rounded_up, one_block_pieces, one_block_slack, one_block_content}
-use Rattle.ufs_defs.specs.BlockLaws.{one_block_slack_empty, list_is_slack}
+use Rattle.ufs_defs.specs.SlackLaws.{content_within}
 use Rattle.ufs_defs.specs.declared.superblock.Superblock.{Superblock}
 use Rattle.ufs_defs.specs.declared.inode.Inode.{Inode}
-use Rattle.volume_defs.specs.FirstForm.{NamedInode, is_first_name, is_first_entry, is_first_superblock, is_first_root, is_small_file, files_of}
+use Rattle.volume_defs.specs.RisingNumbers.{RiseAbove}
+use Rattle.volume_defs.specs.FirstForm.{is_first_name, is_first_entry, is_first_superblock, is_first_root, named_inodes, named_file, root_file}
 use Rattle.volume_defs.specs.FirstTree.{whole_volume, tree_of}
-use Rattle.volume_defs.specs.FirstKept.{both_hold, root_small, file_small, first_files_within}
-
--- a kept list of the bytes of the fragment behind a content is the slack
-pub slack_is : (list : List Range) (fragment size at : ℕ) → 0 < fragment → IsRangeList list
-    → ((byte : ℕ) → covers list byte ≡ covers (record { at = at + size; len = rounded_up fragment size - size } ∷ []) byte) → list ≡ one_block_slack fragment size at
-slack_is list fragment size at some kept agree =
-    list_is_slack fragment size at list some kept (λ byte. agree byte ∙ covered byte)
-  where
-    none_left : (byte : ℕ) (full : Bool) → (full ≡ true → rounded_up fragment size ≡ size)
-        → covers (record { at = at + size; len = rounded_up fragment size - size } ∷ []) byte ≡ covers (if full then [] else (record { at = at + size; len = rounded_up fragment size - size } ∷ [])) byte
-    none_left byte true is = let e : rounded_up fragment size - size ≡ 0 = omega (arith, is refl) in rw e (grind (arith, nat_tests))
-    none_left byte false is = refl
-
-    covered : (byte : ℕ) → covers (record { at = at + size; len = rounded_up fragment size - size } ∷ []) byte ≡ covers (one_block_slack fragment size at) byte
-    covered byte = none_left byte (rounded_up fragment size == size) (λ full. (Decides-eqb (rounded_up fragment size) size).0 full)
-
--- where an empty file begins makes no difference
-pieces_same : (size at other : ℕ) → (0 < size → at ≡ other) → one_block_pieces size at ≡ one_block_pieces size other
-pieces_same zero at other same = refl
-pieces_same (suc size) at other same = ap (λ place. one_block_pieces (suc size) place) (same (omega arith))
-
-slack_same : (fragment size at other : ℕ) → 0 < fragment → (0 < size → at ≡ other) → one_block_slack fragment size at ≡ one_block_slack fragment size other
-slack_same fragment zero at other some same = one_block_slack_empty fragment at some ∙ sym (one_block_slack_empty fragment other some)
-slack_same fragment (suc size) at other some same = ap (λ place. one_block_slack fragment (suc size) place) (same (omega arith))
-
--- the parts of a content that begins at a place
-pub content_is : (superblock : Superblock) (inode : Inode) (at fragment : ℕ) (name : List ℕ) (pieces : List Piece) (slack : List Range) → fragment ≡ counted superblock.fsize → 0 < fragment
-    → (0 < inode.size → at ≡ first_block superblock inode) → name ≡ [] → pieces ≡ one_block_pieces inode.size at → slack ≡ one_block_slack fragment inode.size at
-    → one_block_content superblock inode ≡ record { role = Content; name = name; size = inode.size; pieces = pieces; slack = slack; unreadable = false }
-unfolding one_block_content
-content_is superblock inode at fragment name pieces slack is some begins none pieces_are slack_is =
-    let P : List ℕ → List Piece → List Range → FoundPart = λ n p s. record { role = Content; name = n; size = inode.size; pieces = p; slack = s; unreadable = false } in
-    ap (λ n. P n (one_block_pieces inode.size (first_block superblock inode)) (one_block_slack (counted superblock.fsize) inode.size (first_block superblock inode))) (sym none)
-    ∙ ap (λ p. P name p (one_block_slack (counted superblock.fsize) inode.size (first_block superblock inode)))
-    (sym (pieces_are ∙ pieces_same inode.size at (first_block superblock inode) begins))
-    ∙ ap (λ s. P name pieces s)
-    (sym (slack_is ∙ slack_same fragment inode.size at (first_block superblock inode) some begins ∙ ap (λ n. one_block_slack n inode.size (first_block superblock inode)) is))
+use Rattle.volume_defs.specs.FirstKept.{first_block_size, root_blocks_within, file_blocks_within, named_inodes_rise}
+use Rattle.volume_defs.specs.FirstInvariants.{IsFileOf, AreFilesOf}
 
 first_name-ascii : (name : List ℕ) → is_first_name name ≡ true → IsAscii name
 first_name-ascii [] first i = omega arith
@@ -99,20 +64,62 @@ pub ok_map : {T E : Type 0} {A B C : T → Type 0} (result : Result T E) → IfO
 ok_map (Ok x) first second follows = follows x first second
 ok_map (Err e) first second follows = tt
 
--- the name of an entry of the root
-pub entry_has_name : (entry : Entry) → is_first_entry entry ≡ true → is_first_name entry.name ≡ true
-unfolding is_first_entry
-entry_has_name entry first = (both_hold (is_first_name entry.name) (nat_lt 2 entry.inode) first).0
+-- one name is sorted
+pub one_name_sorted : (name : List ℕ) → IsSorted (slice_cmp nat_cmp) (name ∷ [])
+one_name_sorted name = λ k d low high. absurd (omega (arith, high))
+
+-- ---- the files
+
+-- one more file
+pub files_more : (size : ℕ) (superblock : Superblock) (entries : List Entry) (numbers : List ℕ) (files : List FileEntry) (number : ℕ) (file : FileEntry)
+    → AreFilesOf size superblock entries numbers files → IsFileOf size superblock entries number file → AreFilesOf size superblock entries (numbers ++ number ∷ []) (files ++ file ∷ [])
+files_more size superblock entries [] [] number file before is = (is, tt)
+files_more size superblock entries [] (first ∷ files) number file before is = absurd before
+files_more size superblock entries (one ∷ numbers) [] number file before is = absurd before
+files_more size superblock entries (one ∷ numbers) (first ∷ files) number file before is = (before.0, files_more size superblock entries numbers files number file before.1 is)
+
+-- they stand by rising number
+files_rise : (size : ℕ) (superblock : Superblock) (entries : List Entry) (low : ℕ) (numbers : List ℕ) (files : List FileEntry) → RiseAbove low numbers → AreFilesOf size superblock entries numbers files
+    → StandsBeforeAll (record { volume = 0; number = low }) files × HaveRisingIds files
+files_rise size superblock entries low [] [] rise are = (tt, tt)
+files_rise size superblock entries low [] (file ∷ files) rise are = absurd are
+files_rise size superblock entries low (number ∷ numbers) [] rise are = absurd are
+files_rise size superblock entries low (number ∷ numbers) (file ∷ files) rise are =
+    let P : FileEntry → Type 0 = λ found. StandsBeforeAll (record { volume = 0; number = low }) (found ∷ files) × HaveRisingIds (found ∷ files) in
+    subst P (sym are.0.whole) (lt-ltb low number rise.0, files_rise size superblock entries number numbers files rise.1 are.1)
+
+pub all_files_rise : (size : ℕ) (superblock : Superblock) (root : Inode) (entries : List Entry) (files : List FileEntry) → list_all is_first_entry entries ≡ true
+    → AreFilesOf size superblock entries (named_inodes entries) files → HaveRisingIds (root_file superblock root ∷ files)
+all_files_rise size superblock root entries files named are = files_rise size superblock entries 2 (named_inodes entries) files (named_inodes_rise entries named) are
+
+-- they lie in the image
+files_within : (size : ℕ) (superblock : Superblock) (entries : List Entry) (numbers : List ℕ) (files : List FileEntry) → is_first_superblock superblock ≡ true
+    → AreFilesOf size superblock entries numbers files → AreFilesWithin size files
+files_within size superblock entries [] [] first are = All-nil (λ file. ArePartsWithin size file.parts)
+files_within size superblock entries [] (file ∷ files) first are = absurd are
+files_within size superblock entries (number ∷ numbers) [] first are = absurd are
+files_within size superblock entries (number ∷ numbers) (file ∷ files) first are =
+    let P : FileEntry → Type 0 = λ found. ArePartsWithin size found.parts in
+    All-cons P file files
+    (subst P (sym are.0.whole) (content_within size superblock are.0.inode (first_block_size superblock first) (file_blocks_within size superblock are.0.inode are.0.good)))
+    (files_within size superblock entries numbers files first are.1)
+
+pub all_files_within : (size : ℕ) (superblock : Superblock) (root : Inode) (entries : List Entry) (files : List FileEntry) → is_first_superblock superblock ≡ true → is_first_root size superblock root ≡ true
+    → AreFilesOf size superblock entries (named_inodes entries) files → AreFilesWithin size (root_file superblock root ∷ files)
+all_files_within size superblock root entries files first rooted are =
+    All-cons (λ file. ArePartsWithin size file.parts) (root_file superblock root) files
+    (content_within size superblock root (first_block_size superblock first) (root_blocks_within size superblock root first rooted))
+    (files_within size superblock entries (named_inodes entries) files first are)
+
+-- ---- the tree
 
 -- all that the tree says lies in the image
-pub tree_within : (size : ℕ) (superblock : Superblock) (root : Inode) (named : NamedInode) (guard : List Range) → size ≤ 70368744177664 → is_first_superblock superblock ≡ true
-    → is_first_root size superblock root ≡ true → is_small_file size superblock named.inode ≡ true → AreRangesWithin size guard
-    → IsWithin (tree_of size guard (files_of superblock root (named ∷ [])))
-tree_within size superblock root named guard reach first rooted small guarded = record {
+pub tree_within : (size : ℕ) (files : List FileEntry) (guard : List Range) → size ≤ 70368744177664 → AreFilesWithin size files → AreRangesWithin size guard → IsWithin (tree_of size guard files)
+tree_within size files guard reach within guarded = record {
   in_reach = reach;
   volumes = All-cons (λ volume. volume.at + volume.len ≤ size) (whole_volume size) [] (omega arith) (All-nil (λ volume. volume.at + volume.len ≤ size));
   unread = All-nil (λ range. range.at + range.len ≤ size);
-  files = first_files_within size superblock root named first (root_small size superblock root rooted) (file_small size superblock named.inode small);
+  files = within;
   guard = guarded;
 }
 

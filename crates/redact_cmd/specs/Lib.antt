@@ -3,4 +3,5 @@ pub mod FirstLine
 pub mod Refusals
 pub mod PlanCommand
 pub mod Stages
+pub mod Content
 pub mod Status

@@ -1,26 +1,27 @@
 //! Reads an image of the first form.
-ghost use Rattle.std.specs.Prelude.{◌≡◌, ◌%◌, ◌≤◌, true, length, IfErr, IfSome, IsErrOf, ◌≢◌, Err};
+ghost use Rattle.std.specs.Prelude.{◌≡◌, ◌≤◌, true, length, IfErr, IfSome, IsErrOf, ◌≢◌, Err};
 ghost use Rattle.disk_defs.specs.Count.{Rose};
 ghost use Rattle.disk_defs.specs.Disk.{size_of, told_image};
 ghost use Rattle.disk_defs.specs.declared.Area.TheVariants.{Image};
-ghost use Rattle.ufs_defs.specs.Directory.{entries_of};
-ghost use Rattle.volume_defs.specs.FirstForm.{is_first_length, is_first_superblock, listed};
+ghost use Rattle.volume_defs.specs.FirstForm.{is_first_length, is_first_superblock};
 ghost use Rattle.volume_defs.specs.FirstTree.{first_tree};
-ghost use Rattle.volume_defs.specs.FirstRanges.{IsVolume, the_one};
-ghost use Rattle.redact_cmd.specs.Stages.{Gives, GivesTree, IsImageRefusal, IsOwnRefusal};
+ghost use Rattle.volume_defs.specs.FirstRanges.{IsVolume};
+ghost use Rattle.redact_cmd.specs.Stages.{Gives, GivesTree, IsImageRefusal};
 
 mod content;
 mod directory;
 mod form;
 mod found;
 mod kind;
+mod names;
 mod read;
 mod tree;
 
 use crate::status::Status;
-use directory::{Entry, leading_entries};
-use found::{read_content, read_file, read_root, read_superblock};
+use directory::{leading_entries, may_all_be_named};
+use found::{read_content, read_files, read_root, read_superblock};
 use kind::read_kind;
+use names::named_inodes;
 use rx_store::{Area, Store};
 use rx_tree::Tree;
 use std::alloc::Global;
@@ -88,21 +89,13 @@ fn read_volume<S: Store>(
 {
     let root = read_root(store, size, superblock)?;
     let content = read_content(alloc, store, size, superblock, &root)?;
-    let entry = only_entry(alloc, content.as_slice())?;
-    let named = read_file(store, size, superblock, entry)?;
-    Ok(tree_from(alloc, size, superblock, &root, &named)?)
-}
-
-/// The one entry that leads to a file.
-fn only_entry<'a>(alloc: Global, content: &'a [u8]) -> Result<Entry<'a>, Status>
-    requires { length content.now % 512 ≡ 0 }
-    ensures entry { Gives result (the_one (listed (entries_of content.now))) }
-    ensures refusals { IfErr result IsOwnRefusal }
-{
-    let mut entries = leading_entries(alloc, content)?;
-    let last = entries.pop();
-    match last {
-        Some(entry) if entries.is_empty() => Ok(entry),
-        _ => Err(Status::NotBuilt),
+    let leading = leading_entries(alloc, content.as_slice())?;
+    let entries = leading.as_slice();
+    if !may_all_be_named(entries) {
+        return Err(Status::NotBuilt);
     }
+    let named = named_inodes(alloc, entries)?;
+    let numbers = named.as_slice();
+    let files = read_files(alloc, store, size, superblock, entries, numbers)?;
+    Ok(tree_from(alloc, size, superblock, &root, entries, numbers, files)?)
 }

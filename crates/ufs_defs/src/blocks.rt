@@ -1,17 +1,25 @@
 //! The blocks of a file.
 ghost use Rattle.std.specs.Prelude.{◌≡◌, ◌<◌, ◌^◌};
-ghost use Rattle.ufs_defs.specs.Blocks.{first_block as first_block_by};
+ghost use Rattle.ufs_defs.specs.Blocks.{block_place as block_place_by};
+ghost use Rattle.ufs_defs.specs.SlackLaws.{ContentLaw};
 
 use crate::inode::Inode;
 use crate::signed::counted;
 use crate::superblock::Superblock;
 
-/// The place in the volume of the first block of an inode.
-#[tactic(auto, unfolding(crate::specs::Blocks::first_block))]
-pub fn first_block(superblock: &Superblock, inode: &Inode) -> u128
-    ensures value { result ≡ first_block_by superblock.now inode.now }
+/// The place in the volume of a block of an inode, which is one of the first twelve.
+#[tactic(auto, unfolding(crate::specs::Blocks::block_place))]
+pub fn block_place(superblock: &Superblock, inode: &Inode, block: usize) -> u128
+    requires { block < 12 }
+    ensures value { result ≡ block_place_by superblock.now inode.now block }
     ensures bounded { result < 2 ^ 96 }
 {
-    let pointer = inode.direct[0].max(0) as u64;
+    let pointer = inode.direct[block].max(0) as u64;
     u128::from(pointer) * u128::from(counted(superblock.fsize))
 }
+
+/// What the definition gives for the content of a file of at most twelve blocks: pieces that cover it and put each byte
+/// at its place, and the rest of its last block.
+pub fn content_lies_at_its_places()
+    ensures { ContentLaw }
+{}

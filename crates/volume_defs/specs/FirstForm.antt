@@ -1,6 +1,7 @@
--- Images of the first form: a UFS2 whose root holds one file of at most one block.
-use Rattle.std.specs.Prelude.{ℕ, ◌+◌, ◌*◌, ◌%◌, pos, int_lt, Bool, true, false, not, ◌&&◌, ◌||◌, ◌==◌, nat_lt, nat_le, is_none, Option, Some, None, Result, Ok, Err, List, [], ◌∷◌, map}
-use Rattle.std.specs.List.{list_all}
+-- Images of the first form: a UFS2 whose blocks are fragments and whose root, of at most one block, holds files of at
+-- most twelve.
+use Rattle.std.specs.Prelude.{ℕ, zero, suc, ◌+◌, ◌*◌, ◌%◌, pos, int_lt, Bool, true, false, not, ◌&&◌, ◌==◌, nat_lt, nat_le, is_none, Option, Some, None, Result, Ok, Err, List, [], ◌∷◌, map, get_or}
+use Rattle.std.specs.List.{filter, list_all}
 use Rattle.image_defs.specs.Ask.{Ask, Done, look, check, given, each, ◌>>=◌, ◌>>◌}
 use Rattle.rx_tree.specs.Path.{joined_path}
 use Rattle.rx_tree.specs.declared.file.FileEntry.{FileEntry}
@@ -11,10 +12,12 @@ use Rattle.ufs_defs.specs.Signed.{counted}
 use Rattle.ufs_defs.specs.Superblock.{superblock_of, wrong_field}
 use Rattle.ufs_defs.specs.Inode.{inode_place, inode_of, is_directory, is_file, is_snapshot}
 use Rattle.ufs_defs.specs.Directory.{Entry, entries_of, leading_entries}
-use Rattle.ufs_defs.specs.Blocks.{first_pointer, first_block, one_block_content}
+use Rattle.ufs_defs.specs.Blocks.{block_size, block_count, block_place, content_of}
 use Rattle.ufs_defs.specs.declared.superblock.Superblock.{Superblock}
 use Rattle.ufs_defs.specs.declared.inode.Inode.{Inode}
 use Rattle.volume_defs.specs.Kind.{kind_of}
+use Rattle.volume_defs.specs.RisingNumbers.{rising_numbers}
+use Rattle.volume_defs.specs.SortedNames.{sorted_names}
 
 -- an image that hasn't the first form says nothing
 pub data FirstFault : Type 0 where
@@ -45,11 +48,16 @@ unfoldable pub is_first_inode : ℕ → Superblock → ℕ → Bool
 is_first_inode size superblock number =
     nat_lt number (superblock.ncg * superblock.ipg) && nat_le (inode_place superblock number + 256) size
 
--- the first pointer leads to a block in the image
-unfoldable pub has_first_block : ℕ → Superblock → Inode → Bool
-has_first_block size superblock inode =
-    int_lt (pos 0) (first_pointer inode.direct)
-    && nat_le (first_block superblock inode + counted superblock.bsize) size
+-- the pointer of a block is positive, and the block lies in the image
+unfoldable pub has_block : ℕ → Superblock → Inode → ℕ → Bool
+has_block size superblock inode block =
+    int_lt (pos 0) (get_or inode.direct block (pos 0))
+    && nat_le (block_place superblock inode block + block_size superblock) size
+
+-- the first blocks, so many, are such
+unfoldable pub has_blocks : ℕ → Superblock → Inode → ℕ → Bool
+has_blocks size superblock inode zero = true
+has_blocks size superblock inode (suc count) = has_blocks size superblock inode count && has_block size superblock inode count
 
 -- an inode is neither a snapshot nor has an extended area
 abbrev pub is_plain : Inode → Bool
@@ -60,8 +68,8 @@ unfoldable pub is_first_root : ℕ → Superblock → Inode → Bool
 is_first_root size superblock inode =
     is_directory inode
     && (is_plain inode
-    && ((inode.size % 512 == 0 && (nat_le 512 inode.size && nat_le inode.size (counted superblock.bsize)))
-    && has_first_block size superblock inode))
+    && ((inode.size % 512 == 0 && (nat_le 512 inode.size && nat_le inode.size (block_size superblock)))
+    && has_block size superblock inode 0))
 
 -- a name of bytes that print, without a slash of either kind
 abbrev pub is_first_name : List ℕ → Bool
@@ -71,21 +79,12 @@ is_first_name name = list_all (λ byte. (nat_le 0x21 byte && nat_le byte 0x7E) &
 unfoldable pub is_first_entry : Entry → Bool
 is_first_entry entry = is_first_name entry.name && nat_lt 2 entry.inode
 
--- an entry leads to a file of at most twelve blocks
-unfoldable pub is_first_file : Superblock → Inode → Bool
-is_first_file superblock inode =
-    is_file inode && (is_plain inode && nat_le inode.size (12 * counted superblock.bsize))
-
--- the file has at most one block, which lies in the image
-unfoldable pub is_small_file : ℕ → Superblock → Inode → Bool
-is_small_file size superblock inode =
-    nat_le inode.size (counted superblock.bsize) && (inode.size == 0 || has_first_block size superblock inode)
-
--- one entry, and no more
-abbrev pub is_one : {X : Type 0} → List X → Bool
-is_one [] = false
-is_one (x ∷ []) = true
-is_one (x ∷ y ∷ xs) = false
+-- an inode is that of a file of at most twelve blocks, all of which lie in the image
+unfoldable pub is_first_file : ℕ → Superblock → Inode → Bool
+is_first_file size superblock inode =
+    is_file inode
+    && (is_plain inode
+    && (nat_le inode.size (12 * block_size superblock) && has_blocks size superblock inode (block_count superblock inode)))
 
 -- the superblock
 unfoldable pub first_superblock : Ask FirstFault Superblock
@@ -116,21 +115,8 @@ listed (Err place) = Err NotFirstForm
 -- the entries of the root
 unfoldable pub first_entries : Superblock → Inode → Ask FirstFault (List Entry)
 first_entries superblock root = do
-  content ← look (first_block superblock root) root.size
+  content ← look (block_place superblock root 0) root.size
   given (listed (entries_of content))
-
--- an entry and the inode of the file to which it leads
-pub record NamedInode : Type 0 where
-  pub entry : Entry
-  pub inode : Inode
-
-unfoldable pub first_file : ℕ → Superblock → Entry → Ask FirstFault NamedInode
-first_file size superblock entry = do
-  demand (is_first_entry entry)
-  inode ← first_inode size superblock entry.inode
-  demand (is_first_file superblock inode)
-  demand (is_small_file size superblock inode)
-  Done (record { entry = entry; inode = inode })
 
 -- the path of the root
 abbrev pub root_path : List ℕ
@@ -142,30 +128,45 @@ root_file superblock root = record {
   id = record { volume = 0; number = 2 };
   kind = Dir;
   names = root_path ∷ [];
-  parts = one_block_content superblock root ∷ [];
+  parts = content_of superblock root ∷ [];
 }
 
--- the file to which an entry leads
-abbrev pub named_file : Superblock → NamedInode → FileEntry
-named_file superblock named = record {
-  id = record { volume = 0; number = named.entry.inode };
+-- the paths of the entries that name an inode
+abbrev pub paths_of : List Entry → ℕ → List (List ℕ)
+paths_of entries number = map (λ entry. joined_path root_path entry.name) (filter (λ entry. entry.inode == number) entries)
+
+-- its names: these paths, sorted by their bytes
+abbrev pub names_of : List Entry → ℕ → List (List ℕ)
+names_of entries number = sorted_names (paths_of entries number)
+
+-- the file of an inode that entries name
+abbrev pub named_file : Superblock → List Entry → ℕ → Inode → FileEntry
+named_file superblock entries number inode = record {
+  id = record { volume = 0; number = number };
   kind = File;
-  names = joined_path root_path named.entry.name ∷ [];
-  parts = one_block_content superblock named.inode ∷ [];
+  names = names_of entries number;
+  parts = content_of superblock inode ∷ [];
 }
 
--- all files, by rising number
-abbrev pub files_of : Superblock → Inode → List NamedInode → List FileEntry
-files_of superblock root named = root_file superblock root ∷ map (named_file superblock) named
+-- the inodes that entries name, by rising number
+abbrev pub named_inodes : List Entry → List ℕ
+named_inodes entries = rising_numbers (map (λ entry. entry.inode) entries)
 
--- the files of a UFS2 with a good superblock
+-- the file of the inode of a number
+unfoldable pub first_file : ℕ → Superblock → List Entry → ℕ → Ask FirstFault FileEntry
+first_file size superblock entries number = do
+  inode ← first_inode size superblock number
+  demand (is_first_file size superblock inode)
+  Done (named_file superblock entries number inode)
+
+-- the files of a UFS2 with a good superblock: the root, and the others by rising number
 unfoldable pub files_below : ℕ → Superblock → Ask FirstFault (List FileEntry)
 files_below size superblock = do
   root ← first_root size superblock
   entries ← first_entries superblock root
-  demand (is_one entries)
-  named ← each (first_file size superblock) entries
-  Done (files_of superblock root named)
+  demand (list_all is_first_entry entries)
+  files ← each (first_file size superblock entries) (named_inodes entries)
+  Done (root_file superblock root ∷ files)
 
 -- the files of an image of the first form that has `size` bytes
 unfoldable pub first_files : ℕ → Ask FirstFault (List FileEntry)

@@ -1,43 +1,41 @@
 -- A tree of an image of the first form is a tree: its files stand in order and are covered, its names are sorted, and
 -- all of it lies in the image.
-use Rattle.std.specs.Prelude.{◌≡◌, ℕ, ◌+◌, ◌≤◌, true, nat_le, Result, Ok, List, [], ◌∷◌, refl, IsSorted, length}
-use Rattle.std.specs.List.{All}
-use Rattle.std.specs.Cmp.Lexicographic.{slice_cmp}
-use Rattle.std.specs.Ordering.{nat_cmp}
-use Rattle.std.proofs.Common.{ap, sym, ◌∙◌, subst, arith}
+use Rattle.std.specs.Prelude.{◌≡◌, ℕ, ◌+◌, ◌≤◌, true, nat_le, Result, Ok, List, [], ◌∷◌, length}
+use Rattle.std.specs.List.{All, list_all}
+use Rattle.std.proofs.Common.{sym, subst, arith}
 use Rattle.std.proofs.lemmas.Bool.{leb-true}
 use Rattle.std.proofs.lemmas.List.Elements.{All-cons, All-nil}
 use Rattle.range_defs.specs.Places.{covers}
 use Rattle.image_defs.specs.Bytes.{part}
 use Rattle.image_defs.specs.Ask.{Done, run, visits, each}
 use Rattle.image_defs.specs.Guard.{longest-ends}
-use Rattle.image_defs.specs.Looks.{bind_gives, check_gives, each_gives_one}
+use Rattle.image_defs.specs.Looks.{bind_gives, check_gives}
 use Rattle.rx_tree.specs.Order.{HaveRisingIds}
 use Rattle.rx_tree.specs.Within.{IsWithin, AreFilesWithin}
 use Rattle.rx_tree.specs.declared.file.FileEntry.{FileEntry}
-use Rattle.rx_tree.specs.Path.{joined_path}
 use Rattle.ufs_defs.specs.Superblock.{superblock_of}
-use Rattle.ufs_defs.specs.Blocks.{one_block_content}
 use Rattle.ufs_defs.specs.Directory.{Entry}
 use Rattle.ufs_defs.specs.declared.superblock.Superblock.{Superblock}
 use Rattle.ufs_defs.specs.declared.inode.Inode.{Inode}
 use Rattle.volume_defs.specs.Kind.{kind_of}
-use Rattle.volume_defs.specs.FirstForm.{FirstFault, NotFirstForm, NamedInode, is_first_length, is_first_kind, is_first_superblock, is_first_root, is_first_entry, is_first_file, is_small_file, is_one, first_superblock, first_inode, first_root, first_entries, first_file, files_below, files_of, first_files, root_path, root_file, named_file}
+use Rattle.volume_defs.specs.EachRun.{each_first_gives}
+use Rattle.volume_defs.specs.FirstForm.{FirstFault, NotFirstForm, is_first_length, is_first_kind, is_first_superblock, is_first_inode, is_first_root, is_first_entry, is_first_file, first_superblock, first_inode, first_root, first_entries, first_file, files_below, first_files, named_inodes, root_file, named_file}
+use Rattle.volume_defs.specs.FoundFiles.{IsFileOf, AreFilesOf, IsWhole, first_files_within, first_files_rise, first_files_whole}
 use Rattle.volume_defs.specs.FirstTree.{guard_of, tree_of, whole_volume}
-use Rattle.volume_defs.specs.FirstKept.{IsCovered, both_hold, root_small, file_small, first_files_within, first_files_rise, content_covered, one_name_sorted}
+use Rattle.volume_defs.specs.FirstKept.{both_hold}
 
 -- what the tests made sure of where an image has the first form
 pub record IsOfFirstForm (size : ℕ) (files : List FileEntry) : Type 0 where
   pub superblock : Superblock
   pub root : Inode
-  pub named : NamedInode
+  pub entries : List Entry
+  pub others : List FileEntry
   pub in_reach : is_first_length size ≡ true
   pub good_superblock : is_first_superblock superblock ≡ true
   pub good_root : is_first_root size superblock root ≡ true
-  pub good_entry : is_first_entry named.entry ≡ true
-  pub good_file : is_first_file superblock named.inode ≡ true
-  pub small_file : is_small_file size superblock named.inode ≡ true
-  pub whole : files ≡ files_of superblock root (named ∷ [])
+  pub good_entries : list_all is_first_entry entries ≡ true
+  pub good_files : AreFilesOf size superblock entries (named_inodes entries) others
+  pub whole : files ≡ root_file superblock root ∷ others
 
 same_value : {X : Type 0} (a b : X) → (let first : Result X FirstFault = Ok a in let second : Result X FirstFault = Ok b in first ≡ second) → a ≡ b
 same_value a b same = cc
@@ -58,28 +56,30 @@ root_gives image size superblock root gives =
     let P : Inode → Type 0 = λ value. is_first_root size superblock value ≡ true in
     subst P (same_value found.0 root tested.1) tested.0
 
--- what the tests made sure of at the file of an entry
-record GoodFile (size : ℕ) (superblock : Superblock) (named : NamedInode) : Type 0 where
-  good_entry : is_first_entry named.entry ≡ true
-  good_file : is_first_file superblock named.inode ≡ true
-  small_file : is_small_file size superblock named.inode ≡ true
+pub file_gives : (image : List ℕ) (size : ℕ) (superblock : Superblock) (entries : List Entry) (number : ℕ) (file : FileEntry) → run image (first_file size superblock entries number) ≡ Ok file
+    → IsFileOf size superblock entries number file
+unfolding first_file first_inode
+file_gives image size superblock entries number file gives =
+    let found = bind_gives image (first_inode size superblock number) _ file gives in
+    let inside = check_gives image (is_first_inode size superblock number) NotFirstForm _ found.0 found.1 in
+    let fits = check_gives image (is_first_file size superblock found.0) NotFirstForm (λ x. Done (named_file superblock entries number found.0)) file found.2 in
+    record {
+      inside = inside.0;
+      inode = found.0;
+      good = fits.0;
+      whole = sym (same_value (named_file superblock entries number found.0) file fits.1);
+    }
 
-file_gives : (image : List ℕ) (size : ℕ) (superblock : Superblock) (entry : Entry) (named : NamedInode) → run image (first_file size superblock entry) ≡ Ok named → GoodFile size superblock named
-unfolding first_file
-file_gives image size superblock entry named gives =
-    let entered = check_gives image (is_first_entry entry) NotFirstForm _ named gives in
-    let found = bind_gives image (first_inode size superblock entry.inode) _ named entered.1 in
-    let fits = check_gives image (is_first_file superblock found.0) NotFirstForm _ named found.2 in
-    let small = check_gives image (is_small_file size superblock found.0) NotFirstForm (λ x. Done (record { entry = entry; inode = found.0 })) named fits.1 in
-    let P : NamedInode → Type 0 = λ value. GoodFile size superblock value in
-    subst P (same_value (record { entry = entry; inode = found.0 }) named small.1)
-    (record { good_entry = entered.0; good_file = fits.0; small_file = small.0 })
-
--- a list of one
-only : {X : Type 0} (xs : List X) → is_one xs ≡ true → (x : X) × (xs ≡ x ∷ [])
-only [] one = absurd cc
-only (x ∷ []) one = (x, refl)
-only (x ∷ y ∷ xs) one = absurd cc
+pub files_give : (image : List ℕ) (size : ℕ) (superblock : Superblock) (entries : List Entry) (numbers : List ℕ) (files : List FileEntry)
+    → run image (each (first_file size superblock entries) numbers) ≡ Ok files → AreFilesOf size superblock entries numbers files
+files_give image size superblock entries [] files gives =
+    let P : List FileEntry → Type 0 = λ list. AreFilesOf size superblock entries [] list in
+    subst P (same_value [] files gives) tt
+files_give image size superblock entries (number ∷ numbers) files gives =
+    let found = each_first_gives image (first_file size superblock entries) number numbers files gives in
+    let P : List FileEntry → Type 0 = λ list. AreFilesOf size superblock entries (number ∷ numbers) list in
+    subst P (sym found.4)
+    (file_gives image size superblock entries number found.0 found.2, files_give image size superblock entries numbers found.1 found.3)
 
 below_gives : (image : List ℕ) (size : ℕ) (superblock : Superblock) (files : List FileEntry) → is_first_length size ≡ true → is_first_superblock superblock ≡ true
     → run image (files_below size superblock) ≡ Ok files → IsOfFirstForm size files
@@ -87,23 +87,19 @@ unfolding files_below
 below_gives image size superblock files long good gives =
     let root = bind_gives image (first_root size superblock) _ files gives in
     let entries = bind_gives image (first_entries superblock root.0) _ files root.2 in
-    let one = check_gives image (is_one entries.0) NotFirstForm _ files entries.2 in
-    let entry = only entries.0 one.0 in
-    let found = bind_gives image (each (first_file size superblock) entries.0) _ files one.1 in
-    let P : List Entry → Type 0 = λ list. run image (each (first_file size superblock) list) ≡ Ok found.0 in
-    let named = each_gives_one image (first_file size superblock) entry.0 found.0 (subst P entry.1 found.1) in
-    let file = file_gives image size superblock entry.0 named.0 named.1 in
+    let named = check_gives image (list_all is_first_entry entries.0) NotFirstForm _ files entries.2 in
+    let found = bind_gives image (each (first_file size superblock entries.0) (named_inodes entries.0)) _ files named.1 in
     record {
       superblock = superblock;
       root = root.0;
-      named = named.0;
+      entries = entries.0;
+      others = found.0;
       in_reach = long;
       good_superblock = good;
       good_root = root_gives image size superblock root.0 root.1;
-      good_entry = file.good_entry;
-      good_file = file.good_file;
-      small_file = file.small_file;
-      whole = sym (same_value (files_of superblock root.0 found.0) files found.2) ∙ ap (λ list. files_of superblock root.0 list) named.2;
+      good_entries = named.0;
+      good_files = files_give image size superblock entries.0 (named_inodes entries.0) found.0 found.1;
+      whole = sym (same_value (root_file superblock root.0 ∷ found.0) files found.2);
     }
 
 -- where the definition gives files, the tests made sure of all that
@@ -134,9 +130,7 @@ first_tree_within image files gives =
       unread = All-nil (λ range. range.at + range.len ≤ length image);
       files =
           subst Within (sym found.whole)
-          (first_files_within (length image) found.superblock found.root found.named found.good_superblock
-          (root_small (length image) found.superblock found.root found.good_root)
-          (file_small (length image) found.superblock found.named.inode found.small_file));
+          (first_files_within (length image) found.superblock found.root found.entries found.others found.good_superblock found.good_root found.good_files);
       guard = longest-ends (covers (visits image (first_files (length image)))) 0 (length image) (length image) (omega arith);
     }
 
@@ -145,23 +139,11 @@ pub first_tree_rises : (image : List ℕ) (size : ℕ) (files : List FileEntry) 
 first_tree_rises image size files gives =
     let found = first_files_give image size files gives in
     let P : List FileEntry → Type 0 = λ list. HaveRisingIds list in
-    subst P (sym found.whole) (first_files_rise found.superblock found.root found.named found.good_entry)
+    subst P (sym found.whole) (first_files_rise size found.superblock found.root found.entries found.others found.good_entries found.good_files)
 
--- a file's names are sorted, and the pieces of its parts cover them
-pub record IsWhole (file : FileEntry) : Type 0 where
-  pub sorted : IsSorted (slice_cmp nat_cmp) file.names
-  pub covered : All IsCovered file.parts
-
-one_part_covered : (superblock : Superblock) (inode : Inode) → All IsCovered (one_block_content superblock inode ∷ [])
-one_part_covered superblock inode = All-cons IsCovered (one_block_content superblock inode) [] (content_covered superblock inode) (All-nil IsCovered)
-
+-- and are whole
 pub first_tree_whole : (image : List ℕ) (size : ℕ) (files : List FileEntry) → run image (first_files size) ≡ Ok files → All IsWhole files
 first_tree_whole image size files gives =
     let found = first_files_give image size files gives in
     let P : List FileEntry → Type 0 = λ list. All IsWhole list in
-    subst P (sym found.whole)
-    (All-cons IsWhole (root_file found.superblock found.root) (named_file found.superblock found.named ∷ [])
-    (record { sorted = one_name_sorted root_path; covered = one_part_covered found.superblock found.root })
-    (All-cons IsWhole (named_file found.superblock found.named) []
-    (record { sorted = one_name_sorted (joined_path root_path found.named.entry.name); covered = one_part_covered found.superblock found.named.inode })
-    (All-nil IsWhole)))
+    subst P (sym found.whole) (first_files_whole size found.superblock found.root found.entries found.others found.good_superblock found.good_files)

@@ -1,34 +1,27 @@
--- What the tests of the first form make sure of: the files stand in order, their parts are covered, and all of it lies
--- in the image.
-use Rattle.std.specs.Prelude.{◌≡◌, ℕ, ◌+◌, ◌*◌, ◌<◌, ◌≤◌, ◌%◌, Bool, true, false, ◌&&◌, ◌||◌, ◌==◌, nat_le, nat_lt, is_none, Option, Some, None, List, [], ◌∷◌, refl, IsSorted}
-use Rattle.std.specs.Cmp.Lexicographic.{slice_cmp}
-use Rattle.std.specs.Ordering.{nat_cmp}
-use Rattle.std.proofs.Common.{ap, sym, ◌∙◌, subst, arith, ⊎_elim, ◌⊎◌, inl, inr}
-use Rattle.std.proofs.lemmas.Bool.{leb-true}
+-- What the tests of the first form make sure of: the blocks of the root and of the files lie in the image, and so does
+-- what is looked at.
+use Rattle.std.specs.Prelude.{◌≡◌, ℕ, zero, suc, ◌+◌, ◌*◌, ◌<◌, ◌≤◌, ◌%◌, Bool, true, false, ◌&&◌, ◌==◌, nat_le, nat_lt, is_none, Option, Some, None, List, [], ◌∷◌, refl, map}
+use Rattle.std.specs.List.{All, list_all}
+use Rattle.std.proofs.Common.{ap, sym, ◌∙◌, subst, arith, ⊎_elim}
+use Rattle.std.proofs.Math.Nat.{mul-le-mul_right}
+use Rattle.std.proofs.lemmas.Bool.{leb-true, ltb-true, cases_lt}
 use Rattle.std.proofs.lemmas.Bool.Decides.{Decides-eqb}
 use Rattle.std.proofs.lemmas.List.Elements.{All-cons, All-nil}
-use Rattle.range_defs.specs.declared.Range.{Range}
-use Rattle.rx_tree.specs.Covering.{ArePiecesOf}
-use Rattle.rx_tree.specs.FoundPart.{FoundPart}
-use Rattle.rx_tree.specs.Order.{HaveRisingIds}
-use Rattle.rx_tree.specs.Within.{ArePiecesWithin, AreRangesWithin, ArePartsWithin, AreFilesWithin}
 use Rattle.ufs_defs.specs.Signed.{counted}
 use Rattle.ufs_defs.specs.Superblock.{wrong_field}
-use Rattle.ufs_defs.specs.Inode.{is_directory, inode_place}
+use Rattle.ufs_defs.specs.Directory.{Entry}
+use Rattle.ufs_defs.specs.Inode.{is_directory, is_file, inode_place}
 use Rattle.ufs_defs.specs.SoundSuperblock.{IsSound, is_sound}
-use Rattle.ufs_defs.specs.Blocks.{first_block, one_block_pieces, one_block_slack, one_block_content}
-use Rattle.ufs_defs.specs.BlockLaws.{one_block_pieces_cover, one_block_pieces_within, one_block_slack_within, one_block_slack_empty, rounded_up_one}
+use Rattle.ufs_defs.specs.Blocks.{block_size, block_count, block_place}
+use Rattle.ufs_defs.specs.BlockLaws.{AreBlocksWithin, block_begins}
 use Rattle.ufs_defs.specs.declared.superblock.Superblock.{Superblock}
 use Rattle.ufs_defs.specs.declared.inode.Inode.{Inode}
-use Rattle.volume_defs.specs.FirstForm.{NamedInode, is_first_superblock, is_first_inode, has_first_block, is_plain, is_first_root, is_first_entry, is_small_file, root_file, named_file, files_of}
+use Rattle.volume_defs.specs.RisingNumbers.{RiseAbove, rising_numbers_above}
+use Rattle.volume_defs.specs.FirstForm.{is_first_superblock, is_first_inode, has_block, has_blocks, is_plain, is_first_root, is_first_entry, is_first_name, is_first_file, named_inodes}
 
 pub both_hold : (first second : Bool) → (first && second) ≡ true → (first ≡ true) × (second ≡ true)
 both_hold true second both = (refl, both)
 both_hold false second both = absurd cc
-
-one_holds : (first second : Bool) → (first || second) ≡ true → (first ≡ true) ⊎ (second ≡ true)
-one_holds true second one = inl refl
-one_holds false second one = inr one
 
 none_there : (place : Option ℕ) → is_none place ≡ true → place ≡ None
 none_there None none = refl
@@ -47,109 +40,102 @@ first_superblock_fragment superblock good =
     let whole : counted superblock.frag * counted superblock.fsize ≡ counted superblock.bsize = (first_superblock_sound superblock good).fragments in
     omega (arith, sym (ap (λ frag. frag * counted superblock.fsize) one) ∙ whole)
 
--- the first block lies in the image
-pub first_block_within : (size : ℕ) (superblock : Superblock) (inode : Inode) → has_first_block size superblock inode ≡ true → first_block superblock inode + counted superblock.bsize ≤ size
-unfolding has_first_block
-first_block_within size superblock inode good = leb-true (first_block superblock inode + counted superblock.bsize) size (both_hold _ (nat_le (first_block superblock inode + counted superblock.bsize) size) good).1
+-- a block has some bytes
+pub first_block_size : (superblock : Superblock) → is_first_superblock superblock ≡ true → 0 < block_size superblock
+first_block_size superblock good = omega (arith, (first_superblock_sound superblock good).least_block)
 
--- an inode whose content fits in its first block, which lies in the image unless the content is empty
-pub record IsSmall (size : ℕ) (superblock : Superblock) (inode : Inode) : Type 0 where
-  pub fits : inode.size ≤ counted superblock.bsize
-  pub inside : (inode.size ≡ 0) ⊎ (first_block superblock inode + counted superblock.bsize ≤ size)
+-- ---- the blocks
 
-pub root_small : (size : ℕ) (superblock : Superblock) (root : Inode) → is_first_root size superblock root ≡ true → IsSmall size superblock root
+-- a block lies in the image
+pub has_block_within : (size : ℕ) (superblock : Superblock) (inode : Inode) (block : ℕ) → has_block size superblock inode block ≡ true → block_place superblock inode block + block_size superblock ≤ size
+unfolding has_block
+has_block_within size superblock inode block good = leb-true (block_place superblock inode block + block_size superblock) size (both_hold _ (nat_le (block_place superblock inode block + block_size superblock) size) good).1
+
+-- the first blocks are in the image where each of them is
+pub has_blocks_each : (size : ℕ) (superblock : Superblock) (inode : Inode) (count block : ℕ) → has_blocks size superblock inode count ≡ true → block < count → has_block size superblock inode block ≡ true
+unfolding has_blocks
+has_blocks_each size superblock inode zero block good below = absurd (omega (arith, below))
+has_blocks_each size superblock inode (suc count) block good below =
+    let both = both_hold (has_blocks size superblock inode count) (has_block size superblock inode count) good in
+    let P : ℕ → Type 0 = λ number. has_block size superblock inode number ≡ true in
+    ⊎_elim
+    (λ before. has_blocks_each size superblock inode count block both.0 before)
+    (λ last. subst P (omega (arith, below, last)) both.1)
+    (cases_lt block count)
+
+pub has_blocks_none : (size : ℕ) (superblock : Superblock) (inode : Inode) → has_blocks size superblock inode 0 ≡ true
+unfolding has_blocks
+has_blocks_none size superblock inode = refl
+
+pub has_blocks_next : (size : ℕ) (superblock : Superblock) (inode : Inode) (count : ℕ) → has_blocks size superblock inode count ≡ true → has_block size superblock inode count ≡ true
+    → has_blocks size superblock inode (count + 1) ≡ true
+unfolding has_blocks
+has_blocks_next size superblock inode count good next =
+    let one_more : count + 1 ≡ suc count = omega arith in
+    ap (λ n. has_blocks size superblock inode n) one_more ∙ rw (good, next) refl
+
+-- and not where one of them isn't
+pub has_blocks_not : (size : ℕ) (superblock : Superblock) (inode : Inode) (count block : ℕ) → block < count → has_block size superblock inode block ≡ false → has_blocks size superblock inode count ≡ false
+has_blocks_not size superblock inode count block below bad =
+    tested (has_blocks size superblock inode count) (λ good. let wrong : false ≡ true = sym bad ∙ has_blocks_each size superblock inode count block good below in absurd cc)
+  where
+    tested : (good : Bool) → (good ≡ true → good ≡ false) → good ≡ false
+    tested true other = other refl
+    tested false other = refl
+
+-- ---- the root
+
+-- the root's content is at most its first block, which lies in the image
+pub root_fits : (size : ℕ) (superblock : Superblock) (root : Inode) → is_first_root size superblock root ≡ true
+    → (root.size ≤ block_size superblock) × (block_place superblock root 0 + block_size superblock ≤ size)
 unfolding is_first_root
-root_small size superblock root good =
+root_fits size superblock root good =
     let sizes_and_block = (both_hold (is_plain root) _ (both_hold (is_directory root) _ good).1).1 in
-    let parts = both_hold (root.size % 512 == 0 && (nat_le 512 root.size && nat_le root.size (counted superblock.bsize))) (has_first_block size superblock root) sizes_and_block in
-    let sizes = both_hold (nat_le 512 root.size) (nat_le root.size (counted superblock.bsize)) (both_hold (root.size % 512 == 0) _ parts.0).1 in
-    record {
-      fits = leb-true root.size (counted superblock.bsize) sizes.1;
-      inside = inr (first_block_within size superblock root parts.1);
-    }
+    let parts = both_hold (root.size % 512 == 0 && (nat_le 512 root.size && nat_le root.size (block_size superblock))) (has_block size superblock root 0) sizes_and_block in
+    let sizes = both_hold (nat_le 512 root.size) (nat_le root.size (block_size superblock)) (both_hold (root.size % 512 == 0) _ parts.0).1 in
+    (leb-true root.size (block_size superblock) sizes.1, has_block_within size superblock root 0 parts.1)
 
-pub file_small : (size : ℕ) (superblock : Superblock) (inode : Inode) → is_small_file size superblock inode ≡ true → IsSmall size superblock inode
-unfolding is_small_file
-file_small size superblock inode good =
-    let both = both_hold (nat_le inode.size (counted superblock.bsize)) (inode.size == 0 || has_first_block size superblock inode) good in
-    record {
-      fits = leb-true inode.size (counted superblock.bsize) both.0;
-      inside =
-          ⊎_elim
-          (λ empty. inl ((Decides-eqb inode.size 0).0 empty))
-          (λ there. inr (first_block_within size superblock inode there))
-          (one_holds (inode.size == 0) (has_first_block size superblock inode) both.1);
-    }
-
--- the content of such an inode lies in the image
-small_pieces_within : (size : ℕ) (superblock : Superblock) (inode : Inode) → IsSmall size superblock inode
-    → ArePiecesWithin size (one_block_pieces inode.size (first_block superblock inode))
-small_pieces_within size superblock inode small =
-    let P : ℕ → Type 0 = λ n. ArePiecesWithin size (one_block_pieces n (first_block superblock inode)) in
+one_block : (unit size block : ℕ) → size ≤ unit → block * unit < size → 0 ≡ block
+one_block unit size block fits begins =
     ⊎_elim
-    (λ empty. subst P (sym empty) (All-nil (λ piece. piece.at + piece.len ≤ size)))
-    (λ there. one_block_pieces_within size inode.size (first_block superblock inode) (omega (arith, there, small.fits)))
-    small.inside
+    (λ first. omega (arith, first))
+    (λ later. let whole : 1 * unit ≤ block * unit = mul-le-mul_right unit later in absurd (omega (arith, whole, fits, begins)))
+    (cases_lt block 1)
 
-small_slack_within : (size : ℕ) (superblock : Superblock) (inode : Inode) → is_first_superblock superblock ≡ true → IsSmall size superblock inode
-    → AreRangesWithin size (one_block_slack (counted superblock.fsize) inode.size (first_block superblock inode))
-small_slack_within size superblock inode good small =
-    let sound : IsSound superblock = first_superblock_sound superblock good in
-    let block : counted superblock.fsize ≡ counted superblock.bsize = first_superblock_fragment superblock good in
-    let some : 0 < counted superblock.fsize = omega (arith, sound.least_fragment) in
-    let P : ℕ → Type 0 = λ n. AreRangesWithin size (one_block_slack (counted superblock.fsize) n (first_block superblock inode)) in
-    let Q : List Range → Type 0 = λ slack. AreRangesWithin size slack in
-    ⊎_elim
-    (λ empty. subst P (sym empty) (subst Q (sym (one_block_slack_empty (counted superblock.fsize) (first_block superblock inode) some)) (All-nil (λ range. range.at + range.len ≤ size))))
-    (λ there.
-    let one = rounded_up_one (counted superblock.fsize) inode.size some (omega (arith, small.fits, block)) in
-    one_block_slack_within size (counted superblock.fsize) inode.size (first_block superblock inode) some (omega (arith, there, one, block)))
-    small.inside
-
-pub small_content_within : (size : ℕ) (superblock : Superblock) (inode : Inode) → is_first_superblock superblock ≡ true → IsSmall size superblock inode
-    → ArePartsWithin size (one_block_content superblock inode ∷ [])
-unfolding one_block_content
-small_content_within size superblock inode good small =
-    All-cons (λ part. ArePiecesWithin size part.pieces × AreRangesWithin size part.slack) (one_block_content superblock inode) []
-    (small_pieces_within size superblock inode small, small_slack_within size superblock inode good small)
-    (All-nil (λ part. ArePiecesWithin size part.pieces × AreRangesWithin size part.slack))
-
--- its pieces cover it
-abbrev pub IsCovered : FoundPart → Type 0
-IsCovered part = ArePiecesOf part.unreadable part.size part.pieces
-
-pub content_covered : (superblock : Superblock) (inode : Inode) → IsCovered (one_block_content superblock inode)
-unfolding one_block_content
-content_covered superblock inode = one_block_pieces_cover inode.size (first_block superblock inode)
-
--- one name is sorted
-pub one_name_sorted : (name : List ℕ) → IsSorted (slice_cmp nat_cmp) (name ∷ [])
-one_name_sorted name = λ k d low high. absurd (omega (arith, high))
-
--- the file of an entry stands behind the root
-pub first_files_rise : (superblock : Superblock) (root : Inode) (named : NamedInode) → is_first_entry named.entry ≡ true → HaveRisingIds (files_of superblock root (named ∷ []))
-unfolding is_first_entry
-first_files_rise superblock root named good = ((both_hold _ (nat_lt 2 named.entry.inode) good).1, (tt, tt))
-
--- the files lie in the image
-pub first_files_within : (size : ℕ) (superblock : Superblock) (root : Inode) (named : NamedInode) → is_first_superblock superblock ≡ true
-    → IsSmall size superblock root → IsSmall size superblock named.inode → AreFilesWithin size (files_of superblock root (named ∷ []))
-first_files_within size superblock root named good root_fits file_fits =
-    All-cons (λ file. ArePartsWithin size file.parts) (root_file superblock root) (named_file superblock named ∷ [])
-    (small_content_within size superblock root good root_fits)
-    (All-cons (λ file. ArePartsWithin size file.parts) (named_file superblock named) []
-    (small_content_within size superblock named.inode good file_fits)
-    (All-nil (λ file. ArePartsWithin size file.parts)))
+pub root_blocks_within : (size : ℕ) (superblock : Superblock) (root : Inode) → is_first_superblock superblock ≡ true → is_first_root size superblock root ≡ true → AreBlocksWithin size superblock root
+root_blocks_within size superblock root sound good = λ block below.
+    let fits = root_fits size superblock root good in
+    let begins : block * block_size superblock < root.size = block_begins root.size (block_size superblock) block (first_block_size superblock sound) below in
+    let P : ℕ → Type 0 = λ number. block_place superblock root number + block_size superblock ≤ size in
+    subst P (one_block (block_size superblock) root.size block fits.0 begins) fits.1
 
 -- the root's content lies in the image
-pub root_content_within : (size : ℕ) (superblock : Superblock) (root : Inode) → is_first_root size superblock root ≡ true → first_block superblock root + root.size ≤ size
-unfolding is_first_root
-root_content_within size superblock root good =
-    let sizes_and_block = (both_hold (is_plain root) _ (both_hold (is_directory root) _ good).1).1 in
-    let parts = both_hold (root.size % 512 == 0 && (nat_le 512 root.size && nat_le root.size (counted superblock.bsize))) (has_first_block size superblock root) sizes_and_block in
-    omega (arith, (root_small size superblock root good).fits, first_block_within size superblock root parts.1)
+pub root_content_within : (size : ℕ) (superblock : Superblock) (root : Inode) → is_first_root size superblock root ≡ true → block_place superblock root 0 + root.size ≤ size
+root_content_within size superblock root good = let fits = root_fits size superblock root good in omega (arith, fits.0, fits.1)
+
+-- ---- the files
+
+pub file_blocks_within : (size : ℕ) (superblock : Superblock) (inode : Inode) → is_first_file size superblock inode ≡ true → AreBlocksWithin size superblock inode
+unfolding is_first_file
+file_blocks_within size superblock inode good = λ block below.
+    let fits = (both_hold (is_plain inode) _ (both_hold (is_file inode) _ good).1).1 in
+    let blocks = both_hold (nat_le inode.size (12 * block_size superblock)) (has_blocks size superblock inode (block_count superblock inode)) fits in
+    has_block_within size superblock inode block (has_blocks_each size superblock inode (block_count superblock inode) block blocks.1 below)
 
 -- an inode lies in the image
 pub first_inode_within : (size : ℕ) (superblock : Superblock) (number : ℕ) → is_first_inode size superblock number ≡ true → inode_place superblock number + 256 ≤ size
 unfolding is_first_inode
 first_inode_within size superblock number good = leb-true (inode_place superblock number + 256) size (both_hold (nat_lt number (superblock.ncg * superblock.ipg)) _ good).1
+
+-- entries name inodes behind the root
+names_behind_root : (entries : List Entry) → list_all is_first_entry entries ≡ true → All (λ number. 2 < number) (map (λ entry. entry.inode) entries)
+unfolding is_first_entry
+names_behind_root [] named = All-nil (λ number. 2 < number)
+names_behind_root (entry ∷ entries) named =
+    let both = both_hold (is_first_entry entry) (list_all is_first_entry entries) named in
+    All-cons (λ number. 2 < number) entry.inode (map (λ other. other.inode) entries)
+    (ltb-true 2 entry.inode (both_hold (is_first_name entry.name) (nat_lt 2 entry.inode) both.0).1)
+    (names_behind_root entries both.1)
+
+pub named_inodes_rise : (entries : List Entry) → list_all is_first_entry entries ≡ true → RiseAbove 2 (named_inodes entries)
+named_inodes_rise entries named = rising_numbers_above 2 (map (λ entry. entry.inode) entries) (names_behind_root entries named)

@@ -1,9 +1,9 @@
 -- The definition of the first form looks only inside the image, and the canonical list of what it looks at is the
 -- guard.
-use Rattle.std.specs.Prelude.{◌≡◌, ℕ, ◌≤◌, true, List, [], ◌∷◌, length}
-use Rattle.std.specs.List.{All}
+use Rattle.std.specs.Prelude.{◌≡◌, ℕ, ◌≤◌, true, List, ◌∷◌, length}
+use Rattle.std.specs.List.{All, list_all}
 use Rattle.std.proofs.Common.{arith, sym, subst}
-use Rattle.std.proofs.lemmas.List.Elements.{All-cons, All-nil}
+use Rattle.std.proofs.lemmas.List.Elements.{All-nil}
 use Rattle.range_defs.specs.declared.Range.{Range}
 use Rattle.range_defs.specs.Places.{covers, IsRangeList}
 use Rattle.range_defs.specs.RangeLaws.{EndsBy}
@@ -14,12 +14,13 @@ use Rattle.image_defs.specs.Looks.{LooksAt, looks_bind, looks_check, looks_look,
 use Rattle.ufs_defs.specs.Superblock.{superblock_of}
 use Rattle.ufs_defs.specs.Inode.{inode_place, inode_of}
 use Rattle.ufs_defs.specs.Directory.{Entry, entries_of}
-use Rattle.ufs_defs.specs.Blocks.{first_block}
+use Rattle.ufs_defs.specs.Blocks.{block_place}
 use Rattle.ufs_defs.specs.declared.superblock.Superblock.{Superblock}
 use Rattle.ufs_defs.specs.declared.inode.Inode.{Inode}
 use Rattle.volume_defs.specs.Kind.{kind_of}
-use Rattle.volume_defs.specs.FirstForm.{FirstFault, NotFirstForm, is_first_length, is_first_kind, is_first_superblock, is_first_inode, is_first_root, is_first_entry, is_first_file, is_small_file, is_one, first_superblock, first_inode, first_root, first_entries, first_file, listed, files_below, first_files}
-use Rattle.volume_defs.specs.FirstReader.{probe_places, visits_kind}
+use Rattle.volume_defs.specs.FirstForm.{FirstFault, NotFirstForm, is_first_length, is_first_kind, is_first_superblock, is_first_inode, is_first_root, is_first_entry, is_first_file, first_superblock, first_inode, first_root, first_entries, first_file, named_inodes, named_file, root_file, listed, files_below, first_files}
+use Rattle.volume_defs.specs.FirstReader.{visits_kind}
+use Rattle.volume_defs.specs.FirstRanges.{probes_within}
 use Rattle.volume_defs.specs.FirstTree.{guard_of}
 use Rattle.volume_defs.specs.FirstKept.{first_inode_within, root_content_within}
 use Rattle.volume_defs.specs.FirstInvariants.{root_gives, first_length_in_reach}
@@ -40,38 +41,29 @@ root_looks image size superblock =
 entries_look : (image : List ℕ) (size : ℕ) (superblock : Superblock) (root : Inode) → is_first_root size superblock root ≡ true → LooksAt (EndsBy size) image (first_entries superblock root)
 unfolding first_entries
 entries_look image size superblock root good =
-    looks_look {E = FirstFault} (EndsBy size) image (first_block superblock root) root.size (λ content. given (listed (entries_of content))) (root_content_within size superblock root good)
-    (looks_given (EndsBy size) image (listed (entries_of (part image (first_block superblock root) root.size))))
+    looks_look {E = FirstFault} (EndsBy size) image (block_place superblock root 0) root.size (λ content. given (listed (entries_of content))) (root_content_within size superblock root good)
+    (looks_given (EndsBy size) image (listed (entries_of (part image (block_place superblock root 0) root.size))))
 
-file_looks : (image : List ℕ) (size : ℕ) (superblock : Superblock) (entry : Entry) → LooksAt (EndsBy size) image (first_file size superblock entry)
+file_looks : (image : List ℕ) (size : ℕ) (superblock : Superblock) (entries : List Entry) (number : ℕ) → LooksAt (EndsBy size) image (first_file size superblock entries number)
 unfolding first_file
-file_looks image size superblock entry =
-    looks_check (EndsBy size) image (is_first_entry entry) NotFirstForm _
-    (λ named. looks_bind (EndsBy size) image (first_inode size superblock entry.inode) _ (inode_looks image size superblock entry.inode)
-    (λ inode is. looks_check (EndsBy size) image (is_first_file superblock inode) NotFirstForm _
-    (λ fits. looks_check (EndsBy size) image (is_small_file size superblock inode) NotFirstForm (λ x. Done (record { entry = entry; inode = inode })) (λ small. All-nil (EndsBy size)))))
+file_looks image size superblock entries number =
+    looks_bind (EndsBy size) image (first_inode size superblock number) _ (inode_looks image size superblock number)
+    (λ inode is. looks_check (EndsBy size) image (is_first_file size superblock inode) NotFirstForm (λ x. Done (named_file superblock entries number inode)) (λ fits. All-nil (EndsBy size)))
 
 below_looks : (image : List ℕ) (size : ℕ) (superblock : Superblock) → LooksAt (EndsBy size) image (files_below size superblock)
 unfolding files_below
 below_looks image size superblock =
     looks_bind (EndsBy size) image (first_root size superblock) _ (root_looks image size superblock)
     (λ root is. looks_bind (EndsBy size) image (first_entries superblock root) _ (entries_look image size superblock root (root_gives image size superblock root is))
-    (λ entries listing. looks_check (EndsBy size) image (is_one entries) NotFirstForm _
-    (λ one. looks_bind (EndsBy size) image (each (first_file size superblock) entries) _ (looks_each (EndsBy size) image (first_file size superblock) entries (λ entry. file_looks image size superblock entry))
-    (λ named are. All-nil (EndsBy size)))))
-
-probes_look : (size : ℕ) → 66912 ≤ size → All (EndsBy size) probe_places
-probes_look size long =
-    All-cons (EndsBy size) (record { at = 3; len = 8 }) (record { at = 510; len = 2 } ∷ record { at = 1024; len = 4 } ∷ record { at = 9564; len = 4 } ∷ record { at = 66908; len = 4 } ∷ []) (omega (arith, long))
-    (All-cons (EndsBy size) (record { at = 510; len = 2 }) (record { at = 1024; len = 4 } ∷ record { at = 9564; len = 4 } ∷ record { at = 66908; len = 4 } ∷ []) (omega (arith, long))
-    (All-cons (EndsBy size) (record { at = 1024; len = 4 }) (record { at = 9564; len = 4 } ∷ record { at = 66908; len = 4 } ∷ []) (omega (arith, long))
-    (All-cons (EndsBy size) (record { at = 9564; len = 4 }) (record { at = 66908; len = 4 } ∷ []) (omega (arith, long))
-    (All-cons (EndsBy size) (record { at = 66908; len = 4 }) [] (omega (arith, long)) (All-nil (EndsBy size))))))
+    (λ entries listing. looks_check (EndsBy size) image (list_all is_first_entry entries) NotFirstForm _
+    (λ named. looks_bind (EndsBy size) image (each (first_file size superblock entries) (named_inodes entries)) (λ files. Done (root_file superblock root ∷ files))
+    (looks_each (EndsBy size) image (first_file size superblock entries) (named_inodes entries) (λ number. file_looks image size superblock entries number))
+    (λ files are. All-nil (EndsBy size)))))
 
 kind_looks : (image : List ℕ) (size : ℕ) → 66912 ≤ size → LooksAt (EndsBy size) image (kind_of {E = FirstFault})
 kind_looks image size long =
     let P : List Range → Type 0 = λ ranges. All (EndsBy size) ranges in
-    subst P (sym (visits_kind FirstFault image)) (probes_look size long)
+    subst P (sym (visits_kind FirstFault image)) (probes_within size long)
 
 superblock_looks : (image : List ℕ) (size : ℕ) → 66912 ≤ size → LooksAt (EndsBy size) image first_superblock
 unfolding first_superblock

@@ -1,18 +1,22 @@
 -- How a reader of images of the first form follows the definition, step by step.
-use Rattle.std.specs.Prelude.{◌≡◌, ℕ, true, false, Ok, Err, List, [], ◌∷◌, ◌++◌, refl}
-use Rattle.std.proofs.Common.{ap, ◌∙◌, append-nil}
+use Rattle.std.specs.Prelude.{◌≡◌, ℕ, true, false, Ok, Err, List, [], ◌∷◌, ◌++◌, map, refl}
+use Rattle.std.specs.List.{list_all}
+use Rattle.std.proofs.Common.{ap, ◌∙◌}
 use Rattle.range_defs.specs.declared.Range.{Range}
 use Rattle.image_defs.specs.Bytes.{part}
 use Rattle.image_defs.specs.Ask.{Done, run, visits, ◌>>=◌, check, each}
-use Rattle.image_defs.specs.Runs.{in_front_of, run_bind_ok, run_bind_err, run_check_true, run_check_false, run_each, run_given, visits_next, visits_bind_done, visits_bind_ok, visits_bind_quiet, visits_check_quiet, visits_check_true, visits_each, visits_given}
+use Rattle.image_defs.specs.Looks.{bind_gives, check_gives}
+use Rattle.image_defs.specs.Runs.{run_bind_ok, run_bind_err, run_check_true, run_check_false, run_given, visits_next, visits_bind_done, visits_bind_ok, visits_bind_quiet, visits_check_quiet, visits_check_true, visits_each, visits_given}
+use Rattle.rx_tree.specs.declared.file.FileEntry.{FileEntry}
 use Rattle.ufs_defs.specs.Superblock.{superblock_of}
 use Rattle.ufs_defs.specs.Inode.{inode_place, inode_of}
 use Rattle.ufs_defs.specs.Directory.{Entry, entries_of}
-use Rattle.ufs_defs.specs.Blocks.{first_block}
+use Rattle.ufs_defs.specs.Blocks.{block_place}
 use Rattle.ufs_defs.specs.declared.superblock.Superblock.{Superblock}
 use Rattle.ufs_defs.specs.declared.inode.Inode.{Inode}
 use Rattle.volume_defs.specs.Kind.{Probes, fitting_kind, kind_of}
-use Rattle.volume_defs.specs.FirstForm.{FirstFault, NotFirstForm, NamedInode, is_first_length, is_first_kind, is_first_superblock, is_first_inode, is_first_root, is_first_entry, is_first_file, is_small_file, is_one, first_superblock, first_inode, first_root, first_entries, first_file, listed, files_below, files_of, first_files}
+use Rattle.volume_defs.specs.EachRun.{each_first_gives}
+use Rattle.volume_defs.specs.FirstForm.{FirstFault, NotFirstForm, is_first_length, is_first_kind, is_first_superblock, is_first_inode, is_first_root, is_first_entry, is_first_file, first_superblock, first_inode, first_root, first_entries, first_file, listed, named_inodes, named_file, root_file, files_below, first_files}
 
 -- ---- the kind
 
@@ -62,6 +66,10 @@ visits_first_superblock image =
 
 -- ---- an inode
 
+-- the place of an inode
+abbrev pub inode_range : Superblock → ℕ → Range
+inode_range superblock number = record { at = inode_place superblock number; len = 256 }
+
 pub run_first_inode : (image : List ℕ) (size : ℕ) (superblock : Superblock) (number : ℕ) → is_first_inode size superblock number ≡ true
     → run image (first_inode size superblock number) ≡ Ok (inode_of (part image (inode_place superblock number) 256))
 unfolding first_inode
@@ -101,82 +109,78 @@ visits_first_root image size superblock =
 
 -- ---- the root's entries
 
-pub run_first_entries : (image : List ℕ) (superblock : Superblock) (root : Inode) → run image (first_entries superblock root) ≡ listed (entries_of (part image (first_block superblock root) root.size))
+pub run_first_entries : (image : List ℕ) (superblock : Superblock) (root : Inode) → run image (first_entries superblock root) ≡ listed (entries_of (part image (block_place superblock root 0) root.size))
 unfolding first_entries
-run_first_entries image superblock root = run_given image (listed (entries_of (part image (first_block superblock root) root.size)))
+run_first_entries image superblock root = run_given image (listed (entries_of (part image (block_place superblock root 0) root.size)))
 
-pub visits_first_entries : (image : List ℕ) (superblock : Superblock) (root : Inode) → visits image (first_entries superblock root) ≡ record { at = first_block superblock root; len = root.size } ∷ []
+pub visits_first_entries : (image : List ℕ) (superblock : Superblock) (root : Inode) → visits image (first_entries superblock root) ≡ record { at = block_place superblock root 0; len = root.size } ∷ []
 unfolding first_entries
 visits_first_entries image superblock root =
-    ap (λ ranges. record { at = first_block superblock root; len = root.size } ∷ ranges) (visits_given image (listed (entries_of (part image (first_block superblock root) root.size))))
+    ap (λ ranges. record { at = block_place superblock root 0; len = root.size } ∷ ranges) (visits_given image (listed (entries_of (part image (block_place superblock root 0) root.size))))
 
--- ---- the file of an entry
+-- ---- the file of an inode
 
-pub run_first_file : (image : List ℕ) (size : ℕ) (superblock : Superblock) (entry : Entry) (inode : Inode)
-    → is_first_entry entry ≡ true → run image (first_inode size superblock entry.inode) ≡ Ok inode
-    → is_first_file superblock inode ≡ true → is_small_file size superblock inode ≡ true
-    → run image (first_file size superblock entry) ≡ Ok (record { entry = entry; inode = inode })
+pub run_first_file : (image : List ℕ) (size : ℕ) (superblock : Superblock) (entries : List Entry) (number : ℕ) (inode : Inode)
+    → run image (first_inode size superblock number) ≡ Ok inode → is_first_file size superblock inode ≡ true
+    → run image (first_file size superblock entries number) ≡ Ok (named_file superblock entries number inode)
 unfolding first_file
-run_first_file image size superblock entry inode named is fits small =
-    run_check_true image (is_first_entry entry) NotFirstForm _ named
-    ∙ run_bind_ok image (first_inode size superblock entry.inode) _ inode is
-    ∙ run_check_true image (is_first_file superblock inode) NotFirstForm _ fits
-    ∙ run_check_true image (is_small_file size superblock inode) NotFirstForm _ small
+run_first_file image size superblock entries number inode is good =
+    run_bind_ok image (first_inode size superblock number) _ inode is
+    ∙ run_check_true image (is_first_file size superblock inode) NotFirstForm _ good
 
-pub run_first_file_no_entry : (image : List ℕ) (size : ℕ) (superblock : Superblock) (entry : Entry) → is_first_entry entry ≡ false → run image (first_file size superblock entry) ≡ Err NotFirstForm
+pub run_first_file_no_inode : (image : List ℕ) (size : ℕ) (superblock : Superblock) (entries : List Entry) (number : ℕ)
+    → run image (first_inode size superblock number) ≡ Err NotFirstForm → run image (first_file size superblock entries number) ≡ Err NotFirstForm
 unfolding first_file
-run_first_file_no_entry image size superblock entry bad = run_check_false image (is_first_entry entry) NotFirstForm _ bad
+run_first_file_no_inode image size superblock entries number is = run_bind_err image (first_inode size superblock number) _ NotFirstForm is
 
-pub run_first_file_no_inode : (image : List ℕ) (size : ℕ) (superblock : Superblock) (entry : Entry)
-    → is_first_entry entry ≡ true → run image (first_inode size superblock entry.inode) ≡ Err NotFirstForm → run image (first_file size superblock entry) ≡ Err NotFirstForm
+pub run_first_file_fault : (image : List ℕ) (size : ℕ) (superblock : Superblock) (entries : List Entry) (number : ℕ) (inode : Inode)
+    → run image (first_inode size superblock number) ≡ Ok inode → is_first_file size superblock inode ≡ false
+    → run image (first_file size superblock entries number) ≡ Err NotFirstForm
 unfolding first_file
-run_first_file_no_inode image size superblock entry named is =
-    run_check_true image (is_first_entry entry) NotFirstForm _ named ∙ run_bind_err image (first_inode size superblock entry.inode) _ NotFirstForm is
+run_first_file_fault image size superblock entries number inode is bad =
+    run_bind_ok image (first_inode size superblock number) _ inode is
+    ∙ run_check_false image (is_first_file size superblock inode) NotFirstForm (λ x. Done (named_file superblock entries number inode)) bad
 
-pub run_first_file_no_file : (image : List ℕ) (size : ℕ) (superblock : Superblock) (entry : Entry) (inode : Inode)
-    → is_first_entry entry ≡ true → run image (first_inode size superblock entry.inode) ≡ Ok inode → is_first_file superblock inode ≡ false
-    → run image (first_file size superblock entry) ≡ Err NotFirstForm
+pub visits_first_file : (image : List ℕ) (size : ℕ) (superblock : Superblock) (entries : List Entry) (number : ℕ)
+    → visits image (first_file size superblock entries number) ≡ visits image (first_inode size superblock number)
 unfolding first_file
-run_first_file_no_file image size superblock entry inode named is bad =
-    run_check_true image (is_first_entry entry) NotFirstForm _ named
-    ∙ run_bind_ok image (first_inode size superblock entry.inode) _ inode is
-    ∙ run_check_false image (is_first_file superblock inode) NotFirstForm _ bad
+visits_first_file image size superblock entries number =
+    visits_bind_quiet image (first_inode size superblock number) _
+    (λ inode. visits_check_quiet image (is_first_file size superblock inode) NotFirstForm (λ x. Done (named_file superblock entries number inode)) refl)
 
-pub run_first_file_not_small : (image : List ℕ) (size : ℕ) (superblock : Superblock) (entry : Entry) (inode : Inode)
-    → is_first_entry entry ≡ true → run image (first_inode size superblock entry.inode) ≡ Ok inode
-    → is_first_file superblock inode ≡ true → is_small_file size superblock inode ≡ false
-    → run image (first_file size superblock entry) ≡ Err NotFirstForm
-unfolding first_file
-run_first_file_not_small image size superblock entry inode named is fits bad =
-    run_check_true image (is_first_entry entry) NotFirstForm _ named
-    ∙ run_bind_ok image (first_inode size superblock entry.inode) _ inode is
-    ∙ run_check_true image (is_first_file superblock inode) NotFirstForm _ fits
-    ∙ run_check_false image (is_small_file size superblock inode) NotFirstForm (λ x. Done (record { entry = entry; inode = inode })) bad
+-- a file that was found: its inode lies in the image, and is looked at
+visits_found_file : (image : List ℕ) (size : ℕ) (superblock : Superblock) (entries : List Entry) (number : ℕ) (file : FileEntry) → run image (first_file size superblock entries number) ≡ Ok file
+    → visits image (first_file size superblock entries number) ≡ inode_range superblock number ∷ []
+unfolding first_file first_inode
+visits_found_file image size superblock entries number file is =
+    let inode = bind_gives image (first_inode size superblock number) _ file is in
+    let inside = check_gives image (is_first_inode size superblock number) NotFirstForm _ inode.0 inode.1 in
+    visits_first_file image size superblock entries number ∙ visits_first_inode image size superblock number inside.0
 
-pub visits_first_file : (image : List ℕ) (size : ℕ) (superblock : Superblock) (entry : Entry) → is_first_entry entry ≡ true
-    → visits image (first_file size superblock entry) ≡ visits image (first_inode size superblock entry.inode)
-unfolding first_file
-visits_first_file image size superblock entry named =
-    visits_check_true image (is_first_entry entry) NotFirstForm _ named
-    ∙ visits_bind_quiet image (first_inode size superblock entry.inode) _
-    (λ inode. visits_check_quiet image (is_first_file superblock inode) NotFirstForm _
-    (visits_check_quiet image (is_small_file size superblock inode) NotFirstForm (λ x. Done (record { entry = entry; inode = inode })) refl))
+-- ---- the files of all inodes that are named
 
--- ---- the files of a UFS2 with one entry
+pub visits_found_files : (image : List ℕ) (size : ℕ) (superblock : Superblock) (entries : List Entry) (numbers : List ℕ) (files : List FileEntry)
+    → run image (each (first_file size superblock entries) numbers) ≡ Ok files → visits image (each (first_file size superblock entries) numbers) ≡ map (inode_range superblock) numbers
+visits_found_files image size superblock entries [] files are = refl
+visits_found_files image size superblock entries (number ∷ numbers) files are =
+    let found = each_first_gives image (first_file size superblock entries) number numbers files are in
+    visits_each image (first_file size superblock entries) number numbers
+    ∙ ap (λ first. visits image (first_file size superblock entries number) ++ visits_next image first (λ y. each (first_file size superblock entries) numbers)) found.2
+    ∙ ap (λ ranges. ranges ++ visits image (each (first_file size superblock entries) numbers)) (visits_found_file image size superblock entries number found.0 found.2)
+    ∙ ap (λ ranges. inode_range superblock number ∷ ranges) (visits_found_files image size superblock entries numbers found.1 found.3)
 
-run_each_one : (image : List ℕ) (size : ℕ) (superblock : Superblock) (entry : Entry) (named : NamedInode) → run image (first_file size superblock entry) ≡ Ok named
-    → run image (each (first_file size superblock) (entry ∷ [])) ≡ Ok (named ∷ [])
-run_each_one image size superblock entry named is =
-    run_each image (first_file size superblock) (entry ∷ []) ∙ ap (λ first. in_front_of first (Ok [])) is
+-- ---- the files of a UFS2
 
-pub run_files_below : (image : List ℕ) (size : ℕ) (superblock : Superblock) (root : Inode) (entry : Entry) (named : NamedInode)
-    → run image (first_root size superblock) ≡ Ok root → run image (first_entries superblock root) ≡ Ok (entry ∷ []) → run image (first_file size superblock entry) ≡ Ok named
-    → run image (files_below size superblock) ≡ Ok (files_of superblock root (named ∷ []))
+pub run_files_below : (image : List ℕ) (size : ℕ) (superblock : Superblock) (root : Inode) (entries : List Entry) (files : List FileEntry)
+    → run image (first_root size superblock) ≡ Ok root → run image (first_entries superblock root) ≡ Ok entries → list_all is_first_entry entries ≡ true
+    → run image (each (first_file size superblock entries) (named_inodes entries)) ≡ Ok files
+    → run image (files_below size superblock) ≡ Ok (root_file superblock root ∷ files)
 unfolding files_below
-run_files_below image size superblock root entry named is listing leads =
+run_files_below image size superblock root entries files is listing named are =
     run_bind_ok image (first_root size superblock) _ root is
-    ∙ run_bind_ok image (first_entries superblock root) _ (entry ∷ []) listing
-    ∙ run_bind_ok image (each (first_file size superblock) (entry ∷ [])) _ (named ∷ []) (run_each_one image size superblock entry named leads)
+    ∙ run_bind_ok image (first_entries superblock root) _ entries listing
+    ∙ run_check_true image (list_all is_first_entry entries) NotFirstForm _ named
+    ∙ run_bind_ok image (each (first_file size superblock entries) (named_inodes entries)) _ files are
 
 pub run_files_below_no_root : (image : List ℕ) (size : ℕ) (superblock : Superblock) → run image (first_root size superblock) ≡ Err NotFirstForm → run image (files_below size superblock) ≡ Err NotFirstForm
 unfolding files_below
@@ -188,38 +192,38 @@ unfolding files_below
 run_files_below_no_entries image size superblock root is listing =
     run_bind_ok image (first_root size superblock) _ root is ∙ run_bind_err image (first_entries superblock root) _ NotFirstForm listing
 
-pub run_files_below_not_one : (image : List ℕ) (size : ℕ) (superblock : Superblock) (root : Inode) (entries : List Entry)
-    → run image (first_root size superblock) ≡ Ok root → run image (first_entries superblock root) ≡ Ok entries → is_one entries ≡ false
+pub run_files_below_bad_entry : (image : List ℕ) (size : ℕ) (superblock : Superblock) (root : Inode) (entries : List Entry)
+    → run image (first_root size superblock) ≡ Ok root → run image (first_entries superblock root) ≡ Ok entries → list_all is_first_entry entries ≡ false
     → run image (files_below size superblock) ≡ Err NotFirstForm
 unfolding files_below
-run_files_below_not_one image size superblock root entries is listing more =
+run_files_below_bad_entry image size superblock root entries is listing bad =
     run_bind_ok image (first_root size superblock) _ root is
     ∙ run_bind_ok image (first_entries superblock root) _ entries listing
-    ∙ run_check_false image (is_one entries) NotFirstForm _ more
+    ∙ run_check_false image (list_all is_first_entry entries) NotFirstForm _ bad
 
-pub run_files_below_no_file : (image : List ℕ) (size : ℕ) (superblock : Superblock) (root : Inode) (entry : Entry)
-    → run image (first_root size superblock) ≡ Ok root → run image (first_entries superblock root) ≡ Ok (entry ∷ []) → run image (first_file size superblock entry) ≡ Err NotFirstForm
+pub run_files_below_no_file : (image : List ℕ) (size : ℕ) (superblock : Superblock) (root : Inode) (entries : List Entry)
+    → run image (first_root size superblock) ≡ Ok root → run image (first_entries superblock root) ≡ Ok entries → list_all is_first_entry entries ≡ true
+    → run image (each (first_file size superblock entries) (named_inodes entries)) ≡ Err NotFirstForm
     → run image (files_below size superblock) ≡ Err NotFirstForm
 unfolding files_below
-run_files_below_no_file image size superblock root entry is listing leads =
+run_files_below_no_file image size superblock root entries is listing named none =
     run_bind_ok image (first_root size superblock) _ root is
-    ∙ run_bind_ok image (first_entries superblock root) _ (entry ∷ []) listing
-    ∙ run_bind_err image (each (first_file size superblock) (entry ∷ [])) _ NotFirstForm
-    (run_each image (first_file size superblock) (entry ∷ []) ∙ ap (λ first. in_front_of first (Ok [])) leads)
+    ∙ run_bind_ok image (first_entries superblock root) _ entries listing
+    ∙ run_check_true image (list_all is_first_entry entries) NotFirstForm _ named
+    ∙ run_bind_err image (each (first_file size superblock entries) (named_inodes entries)) _ NotFirstForm none
 
-pub visits_files_below : (image : List ℕ) (size : ℕ) (superblock : Superblock) (root : Inode) (entry : Entry) (named : NamedInode)
-    → run image (first_root size superblock) ≡ Ok root → run image (first_entries superblock root) ≡ Ok (entry ∷ []) → run image (first_file size superblock entry) ≡ Ok named
-    → visits image (files_below size superblock) ≡ visits image (first_root size superblock) ++ (visits image (first_entries superblock root) ++ visits image (first_file size superblock entry))
+pub visits_files_below : (image : List ℕ) (size : ℕ) (superblock : Superblock) (root : Inode) (entries : List Entry)
+    → run image (first_root size superblock) ≡ Ok root → run image (first_entries superblock root) ≡ Ok entries → list_all is_first_entry entries ≡ true
+    → visits image (files_below size superblock)
+    ≡ visits image (first_root size superblock) ++ (visits image (first_entries superblock root) ++ visits image (each (first_file size superblock entries) (named_inodes entries)))
 unfolding files_below
-visits_files_below image size superblock root entry named is listing leads =
+visits_files_below image size superblock root entries is listing named =
     visits_bind_ok image (first_root size superblock) _ root is
     ∙ ap (λ ranges. visits image (first_root size superblock) ++ ranges)
-    (visits_bind_ok image (first_entries superblock root) _ (entry ∷ []) listing
+    (visits_bind_ok image (first_entries superblock root) _ entries listing
     ∙ ap (λ ranges. visits image (first_entries superblock root) ++ ranges)
-    (visits_bind_done image (each (first_file size superblock) (entry ∷ [])) (λ found. files_of superblock root found)
-    ∙ visits_each image (first_file size superblock) entry []
-    ∙ ap (λ first. visits image (first_file size superblock entry) ++ visits_next image first (λ y. each (first_file size superblock) [])) leads
-    ∙ append-nil (visits image (first_file size superblock entry))))
+    (visits_check_true image (list_all is_first_entry entries) NotFirstForm _ named
+    ∙ visits_bind_done image (each (first_file size superblock entries) (named_inodes entries)) (λ files. root_file superblock root ∷ files)))
 
 -- ---- the files of an image
 
@@ -264,27 +268,3 @@ visits_first_files image size superblock long kind is =
     (visits_check_true image (is_first_kind (fitting_kind (probes_of image))) NotFirstForm _ kind
     ∙ visits_bind_ok image first_superblock _ superblock is
     ∙ ap (λ ranges. ranges ++ visits image (files_below size superblock)) (visits_first_superblock image))
-
--- all ranges at which the definition looks on an image of the first form
-abbrev pub first_places : Superblock → Inode → ℕ → List Range
-first_places superblock root number =
-    probe_places
-    ++ record { at = 65536; len = 1376 }
-    ∷ record { at = inode_place superblock 2; len = 256 }
-    ∷ record { at = first_block superblock root; len = root.size }
-    ∷ record { at = inode_place superblock number; len = 256 }
-    ∷ []
-
-pub visits_first_form : (image : List ℕ) (size : ℕ) (superblock : Superblock) (root : Inode) (entry : Entry) (named : NamedInode)
-    → is_first_length size ≡ true → is_first_kind (fitting_kind (probes_of image)) ≡ true → run image first_superblock ≡ Ok superblock
-    → is_first_inode size superblock 2 ≡ true → run image (first_root size superblock) ≡ Ok root → run image (first_entries superblock root) ≡ Ok (entry ∷ [])
-    → is_first_entry entry ≡ true → is_first_inode size superblock entry.inode ≡ true → run image (first_file size superblock entry) ≡ Ok named
-    → visits image (first_files size) ≡ first_places superblock root entry.inode
-visits_first_form image size superblock root entry named long kind is root_inside root_is listing good inside leads =
-    visits_first_files image size superblock long kind is
-    ∙ ap (λ ranges. probe_places ++ (record { at = 65536; len = 1376 } ∷ ranges))
-    (visits_files_below image size superblock root entry named root_is listing leads
-    ∙ ap (λ ranges. ranges ++ (visits image (first_entries superblock root) ++ visits image (first_file size superblock entry))) (visits_first_root image size superblock ∙ visits_first_inode image size superblock 2 root_inside)
-    ∙ ap (λ ranges. record { at = inode_place superblock 2; len = 256 } ∷ (ranges ++ visits image (first_file size superblock entry))) (visits_first_entries image superblock root)
-    ∙ ap (λ ranges. record { at = inode_place superblock 2; len = 256 } ∷ record { at = first_block superblock root; len = root.size } ∷ ranges)
-    (visits_first_file image size superblock entry good ∙ visits_first_inode image size superblock entry.inode inside))

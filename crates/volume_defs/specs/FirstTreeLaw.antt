@@ -10,7 +10,8 @@ use Rattle.rx_tree.specs.Within.{IsWithin}
 use Rattle.rx_tree.specs.declared.file.FileEntry.{FileEntry}
 use Rattle.volume_defs.specs.FirstForm.{FirstFault, first_files}
 use Rattle.volume_defs.specs.FirstTree.{guard_of, tree_of, first_tree}
-use Rattle.volume_defs.specs.FirstInvariants.{IsWhole, first_tree_within, first_tree_rises, first_tree_whole}
+use Rattle.volume_defs.specs.FoundFiles.{IsWhole}
+use Rattle.volume_defs.specs.FirstInvariants.{first_tree_within, first_tree_rises, first_tree_whole}
 
 -- all that it says lies in its image; its volumes and its files stand in order; the names of each file are sorted, and
 -- the pieces of each part cover it

@@ -1,10 +1,11 @@
 -- What the definitions say of the small image, worked out by hand.
-use Rattle.std.specs.Prelude.{◌≡◌, false, List, [], ◌∷◌, length, take, slice_set, Some, None, Ok, Err, refl}
+use Rattle.std.specs.Prelude.{◌≡◌, ℕ, false, List, [], ◌∷◌, length, take, slice_set, Some, None, Ok, Err, refl}
 use Rattle.std.specs.Int.Count.{ones}
 use Rattle.image_defs.specs.Bytes.{part}
 use Rattle.image_defs.specs.Ask.{run, visits}
 use Rattle.image_defs.specs.Numbers.{little_at, little_signed_at}
 use Rattle.range_defs.specs.declared.Range.{Range}
+use Rattle.rx_ranges.specs.declared.pieces.Piece.{Piece}
 use Rattle.rx_ranges.specs.declared.pieces.PieceKind.TheVariants.{Disk}
 use Rattle.rx_tree.specs.declared.part.Role.TheVariants.{Content}
 use Rattle.rx_tree.specs.declared.file.Kind.TheVariants.{File, Dir}
@@ -13,9 +14,11 @@ use Rattle.rx_tree.specs.declared.volume.FsKind.TheVariants.{Ufs2}
 use Rattle.ufs_defs.specs.Superblock.{superblock_of, wrong_field, is_block_size, is_fragment_size, is_fragment_count, is_inode_count}
 use Rattle.ufs_defs.specs.Inode.{inode_place, inode_of}
 use Rattle.ufs_defs.specs.Directory.{entries_of, entries_from, entries_within, is_entry}
-use Rattle.ufs_defs.specs.Blocks.{first_block, one_block_content}
+use Rattle.ufs_defs.specs.Blocks.{block_place, pieces_within, block_pieces, content_pieces, content_slack, content_of}
 use Rattle.volume_defs.specs.Kind.{kind_of}
-use Rattle.volume_defs.specs.FirstForm.{FirstFault, NotFirstForm, first_files, files_below, first_file, first_entries, first_root, first_inode, first_superblock, is_first_superblock, is_first_inode, has_first_block, is_first_root, is_first_entry, is_first_file, is_small_file}
+use Rattle.volume_defs.specs.FirstForm.{FirstFault, NotFirstForm, first_files, files_below, first_file, first_entries, first_root, first_inode, first_superblock, is_first_superblock, is_first_inode, has_block, has_blocks, is_first_root, is_first_entry, is_first_file}
+use Rattle.volume_defs.specs.RisingNumbers.{rising_numbers}
+use Rattle.volume_defs.specs.SortedNames.{sorted_names}
 use Rattle.volume_defs.specs.ImageT.{image_t}
 
 pub length_t : length image_t ≡ 262144
@@ -46,39 +49,47 @@ entries_t : entries_of (part image_t 81920 512) ≡ Ok (
 unfolding image_t part entries_from entries_within is_entry little_at
 entries_t = refl
 
+-- the root, of one piece and its slack
+abbrev pub found_root : FileEntry
+found_root = record {
+  id = record { volume = 0; number = 2 };
+  kind = Dir;
+  names = (47 ∷ []) ∷ [];
+  parts = record {
+    role = Content;
+    name = [];
+    size = 512;
+    pieces = record { from = 0; len = 512; kind = Disk; at = 81920 } ∷ [];
+    slack = record { at = 82432; len = 3584 } ∷ [];
+    unreadable = false;
+  } ∷ [];
+}
+
+-- a file with these names and this content
+abbrev pub found_file : ℕ → List (List ℕ) → ℕ → List Piece → List Range → FileEntry
+found_file number names size pieces slack = record {
+  id = record { volume = 0; number = number };
+  kind = File;
+  names = names;
+  parts = record {
+    role = Content;
+    name = [];
+    size = size;
+    pieces = pieces;
+    slack = slack;
+    unreadable = false;
+  } ∷ [];
+}
+
 -- the root, and the file "a" of three bytes
 abbrev pub files_t : List FileEntry
 files_t =
-    record {
-      id = record { volume = 0; number = 2 };
-      kind = Dir;
-      names = (47 ∷ []) ∷ [];
-      parts = record {
-        role = Content;
-        name = [];
-        size = 512;
-        pieces = record { from = 0; len = 512; kind = Disk; at = 81920 } ∷ [];
-        slack = record { at = 82432; len = 3584 } ∷ [];
-        unreadable = false;
-      } ∷ [];
-    }
-    ∷ record {
-      id = record { volume = 0; number = 3 };
-      kind = File;
-      names = (47 ∷ 97 ∷ []) ∷ [];
-      parts = record {
-        role = Content;
-        name = [];
-        size = 3;
-        pieces = record { from = 0; len = 3; kind = Disk; at = 86016 } ∷ [];
-        slack = record { at = 86019; len = 4093 } ∷ [];
-        unreadable = false;
-      } ∷ [];
-    }
+    found_root
+    ∷ found_file 3 ((47 ∷ 97 ∷ []) ∷ []) 3 (record { from = 0; len = 3; kind = Disk; at = 86016 } ∷ []) (record { at = 86019; len = 4093 } ∷ [])
     ∷ []
 
 pub run_t : run image_t (first_files 262144) ≡ Ok files_t
-unfolding image_t part little_at little_signed_at superblock_of wrong_field inode_place inode_of entries_from entries_within is_entry first_block one_block_content kind_of first_files files_below first_file first_entries first_root first_inode first_superblock is_first_superblock is_first_inode has_first_block is_first_root is_first_entry is_first_file is_small_file is_block_size is_fragment_size is_fragment_count is_inode_count ones
+unfolding image_t part little_at little_signed_at superblock_of wrong_field inode_place inode_of entries_from entries_within is_entry block_place pieces_within block_pieces content_pieces content_slack content_of rising_numbers sorted_names kind_of first_files files_below first_file first_entries first_root first_inode first_superblock is_first_superblock is_first_inode has_block has_blocks is_first_root is_first_entry is_first_file is_block_size is_fragment_size is_fragment_count is_inode_count ones
 run_t = refl
 
 -- the bytes on which that rests
@@ -96,31 +107,31 @@ visits_of_t =
     ∷ []
 
 pub visits_t : visits image_t (first_files 262144) ≡ visits_of_t
-unfolding image_t part little_at little_signed_at superblock_of wrong_field inode_place inode_of entries_from entries_within is_entry first_block one_block_content kind_of first_files files_below first_file first_entries first_root first_inode first_superblock is_first_superblock is_first_inode has_first_block is_first_root is_first_entry is_first_file is_small_file is_block_size is_fragment_size is_fragment_count is_inode_count ones
+unfolding image_t part little_at little_signed_at superblock_of wrong_field inode_place inode_of entries_from entries_within is_entry block_place pieces_within block_pieces content_pieces content_slack content_of rising_numbers sorted_names kind_of first_files files_below first_file first_entries first_root first_inode first_superblock is_first_superblock is_first_inode has_block has_blocks is_first_root is_first_entry is_first_file is_block_size is_fragment_size is_fragment_count is_inode_count ones
 visits_t = refl
 
 -- without its last byte, the file's block isn't whole
 cut_block_t : run (take 90111 image_t) (first_files 90111) ≡ Err NotFirstForm
-unfolding image_t part little_at little_signed_at superblock_of wrong_field inode_place inode_of entries_from entries_within is_entry first_block one_block_content kind_of first_files files_below first_file first_entries first_root first_inode first_superblock is_first_superblock is_first_inode has_first_block is_first_root is_first_entry is_first_file is_small_file is_block_size is_fragment_size is_fragment_count is_inode_count ones
+unfolding image_t part little_at little_signed_at superblock_of wrong_field inode_place inode_of entries_from entries_within is_entry block_place pieces_within block_pieces content_pieces content_slack content_of rising_numbers sorted_names kind_of first_files files_below first_file first_entries first_root first_inode first_superblock is_first_superblock is_first_inode has_block has_blocks is_first_root is_first_entry is_first_file is_block_size is_fragment_size is_fragment_count is_inode_count ones
 cut_block_t = refl
 
 -- cut inside what the kind rests on, or empty
 cut_t : run (take 1000 image_t) (first_files 1000) ≡ Err NotFirstForm
-unfolding image_t part little_at little_signed_at superblock_of wrong_field inode_place inode_of entries_from entries_within is_entry first_block one_block_content kind_of first_files files_below first_file first_entries first_root first_inode first_superblock is_first_superblock is_first_inode has_first_block is_first_root is_first_entry is_first_file is_small_file is_block_size is_fragment_size is_fragment_count is_inode_count ones
+unfolding image_t part little_at little_signed_at superblock_of wrong_field inode_place inode_of entries_from entries_within is_entry block_place pieces_within block_pieces content_pieces content_slack content_of rising_numbers sorted_names kind_of first_files files_below first_file first_entries first_root first_inode first_superblock is_first_superblock is_first_inode has_block has_blocks is_first_root is_first_entry is_first_file is_block_size is_fragment_size is_fragment_count is_inode_count ones
 cut_t = refl
 
 empty_t : run [] (first_files 0) ≡ Err NotFirstForm
-unfolding image_t part little_at little_signed_at superblock_of wrong_field inode_place inode_of entries_from entries_within is_entry first_block one_block_content kind_of first_files files_below first_file first_entries first_root first_inode first_superblock is_first_superblock is_first_inode has_first_block is_first_root is_first_entry is_first_file is_small_file is_block_size is_fragment_size is_fragment_count is_inode_count ones
+unfolding image_t part little_at little_signed_at superblock_of wrong_field inode_place inode_of entries_from entries_within is_entry block_place pieces_within block_pieces content_pieces content_slack content_of rising_numbers sorted_names kind_of first_files files_below first_file first_entries first_root first_inode first_superblock is_first_superblock is_first_inode has_block has_blocks is_first_root is_first_entry is_first_file is_block_size is_fragment_size is_fragment_count is_inode_count ones
 empty_t = refl
 
 -- the first pointer of inode 3 leads to the block at the image's end
 pointer_t : run (slice_set image_t 74608 64) (first_files 262144) ≡ Err NotFirstForm
-unfolding image_t part little_at little_signed_at superblock_of wrong_field inode_place inode_of entries_from entries_within is_entry first_block one_block_content kind_of first_files files_below first_file first_entries first_root first_inode first_superblock is_first_superblock is_first_inode has_first_block is_first_root is_first_entry is_first_file is_small_file is_block_size is_fragment_size is_fragment_count is_inode_count ones
+unfolding image_t part little_at little_signed_at superblock_of wrong_field inode_place inode_of entries_from entries_within is_entry block_place pieces_within block_pieces content_pieces content_slack content_of rising_numbers sorted_names kind_of first_files files_below first_file first_entries first_root first_inode first_superblock is_first_superblock is_first_inode has_block has_blocks is_first_root is_first_entry is_first_file is_block_size is_fragment_size is_fragment_count is_inode_count ones
 pointer_t = refl
 
 -- the superblock tells of blocks without a byte
 block_size_t : run (slice_set image_t 65585 0) (first_files 262144) ≡ Err NotFirstForm
-unfolding image_t part little_at little_signed_at superblock_of wrong_field inode_place inode_of entries_from entries_within is_entry first_block one_block_content kind_of first_files files_below first_file first_entries first_root first_inode first_superblock is_first_superblock is_first_inode has_first_block is_first_root is_first_entry is_first_file is_small_file is_block_size is_fragment_size is_fragment_count is_inode_count ones
+unfolding image_t part little_at little_signed_at superblock_of wrong_field inode_place inode_of entries_from entries_within is_entry block_place pieces_within block_pieces content_pieces content_slack content_of rising_numbers sorted_names kind_of first_files files_below first_file first_entries first_root first_inode first_superblock is_first_superblock is_first_inode has_block has_blocks is_first_root is_first_entry is_first_file is_block_size is_fragment_size is_fragment_count is_inode_count ones
 block_size_t = refl
 
 block_size_field_t : wrong_field (superblock_of (part (slice_set image_t 65585 0) 65536 1376)) ≡ Some 48

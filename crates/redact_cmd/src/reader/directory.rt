@@ -2,6 +2,7 @@
 ghost use Rattle.std.specs.Prelude.{◌≡◌, ◌+◌, ◌%◌, ◌<◌, ◌≤◌, ◌==◌, ◌&&◌, true, not, nat_le, IfErr, length};
 ghost use Rattle.ufs_defs.specs.Directory.{is_entry as is_entry_by, entry_of, entries_of, leads_on};
 ghost use Rattle.volume_defs.specs.FirstForm.{is_first_entry, is_first_name, listed};
+ghost use Rattle.std.specs.List.{list_all};
 ghost use Rattle.image_defs.specs.Bytes.{part};
 ghost use Rattle.redact_cmd.specs.Stages.{GivesItems, IsOwnRefusal};
 
@@ -10,7 +11,6 @@ use image_defs::little;
 use std::alloc::Global;
 use std::marker::Model;
 use ufs_defs::directory::is_entry;
-use ufs_defs::inode::Inode;
 
 /// An entry: its place in the content, the inode that it names, its length, and its name.
 #[derive(Drop)]
@@ -29,21 +29,6 @@ impl<'a> Model for Entry<'a> {
     ghost view = { λ e. record { at = e.at; inode = e.inode; len = e.len; name = e.name.now } };
 }
 
-/// An entry and the inode of the file to which it leads.
-#[derive(Drop)]
-pub(super) struct NamedInode<'a> {
-    pub entry: Entry<'a>,
-    pub inode: Inode,
-}
-
-impl<'a> Model for NamedInode<'a> {
-    ghost use Rattle.volume_defs.specs.FirstForm.{NamedInode};
-
-    ghost Value = { NamedInode };
-
-    ghost view = { λ n. record { entry = n.entry; inode = n.inode } };
-}
-
 /// The bytes from a place on, as many as that or as there are.
 #[tactic(auto, unfolding(image_defs::specs::Bytes::part))]
 fn part_of(bytes: &[u8], at: usize, len: usize) -> &[u8]
@@ -55,7 +40,7 @@ fn part_of(bytes: &[u8], at: usize, len: usize) -> &[u8]
 }
 
 /// The entry at a place.
-#[tactic(auto, using(crate::proofs::Reading::entry_head, ufs_defs::specs::Entries::entry_laws))]
+#[tactic(auto, using(crate::proofs::Entries::entry_head, ufs_defs::specs::Entries::entry_laws))]
 fn entry_at(content: &[u8], at: usize) -> Entry<'_>
     requires whole { length content.now % 512 ≡ 0 }
     requires inside { at < length content.now }
@@ -119,8 +104,15 @@ fn may_be_name(name: &[u8]) -> bool
 
 /// Whether an entry may stand in the root of an image of the first form.
 #[tactic(auto, unfolding(volume_defs::specs::FirstForm::is_first_entry))]
-pub(super) fn may_be_named(entry: &Entry<'_>) -> bool
+fn may_be_named(entry: &Entry<'_>) -> bool
     ensures { result ≡ is_first_entry entry.now }
 {
     may_be_name(entry.name) && 2 < entry.inode
+}
+
+/// Whether all entries may stand there.
+pub(super) fn may_all_be_named(entries: &[Entry<'_>]) -> bool
+    ensures { result ≡ list_all is_first_entry entries.now }
+{
+    entries.iter().all(|entry| may_be_named(entry))
 }

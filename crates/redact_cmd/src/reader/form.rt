@@ -1,11 +1,11 @@
 //! The tests of the first form, and the places that they make sure of.
-ghost use Rattle.std.specs.Prelude.{◌≡◌, ◌≤◌, ◌+◌, true};
-ghost use Rattle.ufs_defs.specs.Signed.{counted as counted_by};
+ghost use Rattle.std.specs.Prelude.{◌≡◌, ◌≤◌, ◌<◌, ◌+◌, ◌*◌, ◌&&◌, nat_le, true};
 ghost use Rattle.ufs_defs.specs.Inode.{inode_place as inode_place_by};
-ghost use Rattle.ufs_defs.specs.Blocks.{first_block as first_block_by};
-ghost use Rattle.volume_defs.specs.FirstForm.{is_first_superblock, is_first_inode, is_first_root, is_first_file, is_small_file, is_plain, has_first_block};
+ghost use Rattle.ufs_defs.specs.Blocks.{block_size, block_count, block_place as block_place_by};
+ghost use Rattle.volume_defs.specs.FirstForm.{is_first_superblock, is_first_inode, is_first_root, is_first_file, is_plain, has_block as has_block_by, has_blocks as has_blocks_by};
+ghost use Rattle.redact_cmd.specs.Content.{has_content as has_content_by};
 
-use ufs_defs::blocks::first_block;
+use ufs_defs::blocks::block_place;
 use ufs_defs::inode::{Inode, inode_place};
 use ufs_defs::signed::counted;
 use ufs_defs::superblock::Superblock;
@@ -39,23 +39,50 @@ pub(super) fn inode_at(size: u64, superblock: &Superblock, number: u32) -> u64
     inode_place(superblock, number) as u64
 }
 
-/// Whether the first pointer leads to a block in the image.
-#[tactic(auto, unfolding(volume_defs::specs::FirstForm::has_first_block))]
-fn block_within(size: u64, superblock: &Superblock, inode: &Inode) -> bool
-    ensures { result ≡ has_first_block size superblock.now inode.now }
+/// The bytes of a block.
+#[tactic(auto, using(crate::proofs::Reading::least_block, crate::proofs::Reading::greatest_block))]
+pub(super) fn block_bytes(superblock: &Superblock) -> u64
+    requires { is_first_superblock superblock.now ≡ true }
+    ensures value { result ≡ block_size superblock.now }
+    ensures least { 4096 ≤ result }
+    ensures greatest { result ≤ 65536 }
 {
-    let block = u128::from(counted(superblock.bsize));
-    0 < inode.direct[0] && first_block(superblock, inode) + block <= u128::from(size)
+    u64::from(counted(superblock.bsize))
 }
 
-/// The place in the image of the first block of an inode that has one there.
-#[tactic(auto, unfolding(volume_defs::specs::FirstForm::has_first_block))]
-pub(super) fn block_at(size: u64, superblock: &Superblock, inode: &Inode) -> u64
-    requires { has_first_block size superblock.now inode.now ≡ true }
-    ensures place { result ≡ first_block_by superblock.now inode.now }
-    ensures inside { result + counted_by superblock.now.bsize ≤ size }
+/// Whether a block's pointer leads to a block in the image.
+#[tactic(auto, unfolding(volume_defs::specs::FirstForm::has_block))]
+fn has_block(size: u64, superblock: &Superblock, inode: &Inode, block: usize) -> bool
+    requires { block < 12 }
+    ensures { result ≡ has_block_by size superblock.now inode.now block }
 {
-    first_block(superblock, inode) as u64
+    let len = u128::from(counted(superblock.bsize));
+    0 < inode.direct[block] && block_place(superblock, inode, block) + len <= u128::from(size)
+}
+
+/// Whether the pointers of the first blocks, so many, lead to blocks in the image.
+#[tactic(auto, using(volume_defs::specs::FirstKept::has_blocks_none, volume_defs::specs::FirstKept::has_blocks_next, volume_defs::specs::FirstKept::has_blocks_not))]
+fn has_blocks(size: u64, superblock: &Superblock, inode: &Inode, count: usize) -> bool
+    requires { count ≤ 12 }
+    ensures { result ≡ has_blocks_by size superblock.now inode.now count }
+{
+    for block in 0..count {
+        if !has_block(size, superblock, inode, block) {
+            return false;
+        }
+    }
+    true
+}
+
+/// The place in the image of a block of an inode that has one there.
+#[tactic(auto, using(volume_defs::specs::FirstKept::has_block_within))]
+pub(super) fn block_at(size: u64, superblock: &Superblock, inode: &Inode, block: usize) -> u64
+    requires number { block < 12 }
+    requires within { has_block_by size superblock.now inode.now block ≡ true }
+    ensures place { result ≡ block_place_by superblock.now inode.now block }
+    ensures inside { result + block_size superblock.now ≤ size }
+{
+    block_place(superblock, inode, block) as u64
 }
 
 fn has_nothing_special(inode: &Inode) -> bool
@@ -74,24 +101,24 @@ pub(super) fn may_be_root(size: u64, superblock: &Superblock, inode: &Inode) -> 
         && inode.size % 512 == 0
         && 512 <= inode.size
         && inode.size <= u64::from(counted(superblock.bsize))
-        && block_within(size, superblock, inode)
+        && has_block(size, superblock, inode, 0)
 }
 
-/// Whether an inode is a file of at most twelve blocks.
-#[tactic(auto, unfolding(volume_defs::specs::FirstForm::is_first_file))]
-pub(super) fn may_be_file(superblock: &Superblock, inode: &Inode) -> bool
-    ensures { result ≡ is_first_file superblock.now inode.now }
+/// Whether a content has at most twelve blocks, and they lie in the image.
+#[tactic(auto, unfolding(crate::specs::Content::has_content), using(crate::proofs::Reading::twelve_blocks))]
+fn has_content(size: u64, superblock: &Superblock, inode: &Inode) -> bool
+    requires { is_first_superblock superblock.now ≡ true }
+    ensures { result ≡ has_content_by size superblock.now inode.now }
 {
-    inode.is_file()
-        && has_nothing_special(inode)
-        && inode.size <= 12 * u64::from(counted(superblock.bsize))
+    let len = block_bytes(superblock);
+    inode.size <= 12 * len && has_blocks(size, superblock, inode, inode.size.div_ceil(len) as usize)
 }
 
-/// Whether a file has at most one block, which lies in the image.
-#[tactic(auto, unfolding(volume_defs::specs::FirstForm::is_small_file))]
-pub(super) fn has_one_block(size: u64, superblock: &Superblock, inode: &Inode) -> bool
-    ensures { result ≡ is_small_file size superblock.now inode.now }
+/// Whether an inode is a file of at most twelve blocks, which lie in the image.
+#[tactic(auto, unfolding(volume_defs::specs::FirstForm::is_first_file, crate::specs::Content::has_content))]
+pub(super) fn may_be_file(size: u64, superblock: &Superblock, inode: &Inode) -> bool
+    requires { is_first_superblock superblock.now ≡ true }
+    ensures { result ≡ is_first_file size superblock.now inode.now }
 {
-    inode.size <= u64::from(counted(superblock.bsize))
-        && (inode.size == 0 || block_within(size, superblock, inode))
+    inode.is_file() && has_nothing_special(inode) && has_content(size, superblock, inode)
 }

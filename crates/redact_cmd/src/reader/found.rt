@@ -3,19 +3,21 @@ ghost use Rattle.std.specs.Prelude.{◌≡◌, ◌≤◌, true, length, IfOk, On
 ghost use Rattle.disk_defs.specs.Count.{Rose};
 ghost use Rattle.disk_defs.specs.Disk.{size_of, told_image};
 ghost use Rattle.disk_defs.specs.declared.Area.TheVariants.{Image};
-ghost use Rattle.image_defs.specs.Ask.{run};
+ghost use Rattle.std.specs.List.{All, list_all};
+ghost use Rattle.image_defs.specs.Ask.{run, each};
 ghost use Rattle.image_defs.specs.Bytes.{part};
-ghost use Rattle.ufs_defs.specs.Blocks.{first_block};
-ghost use Rattle.volume_defs.specs.FirstForm.{is_first_superblock, is_first_inode, is_first_root, is_first_entry, is_first_file, is_small_file, first_superblock, first_inode, first_root, first_file};
-ghost use Rattle.redact_cmd.specs.Stages.{Gives, IsImageRefusal, IsReadFailure};
+ghost use Rattle.ufs_defs.specs.Blocks.{block_place};
+ghost use Rattle.volume_defs.specs.FirstForm.{is_first_superblock, is_first_inode, is_first_root, is_first_entry, first_superblock, first_inode, first_root, first_file};
+ghost use Rattle.volume_defs.specs.FirstInvariants.{IsFileOf, AreFilesOf};
+ghost use Rattle.redact_cmd.specs.Stages.{Gives, GivesItems, IsImageRefusal, IsReadFailure};
 
-use super::directory::{Entry, NamedInode, may_be_named};
-use super::form::{
-    block_at, has_one_block, inode_at, inode_within, is_sound, may_be_file, may_be_root,
-};
+use super::directory::Entry;
+use super::form::{block_at, inode_at, inode_within, is_sound, may_be_file, may_be_root};
 use super::read::{read_bytes, read_part};
+use super::tree::named_entry;
 use crate::status::Status;
 use rx_store::Store;
+use rx_tree::FileEntry;
 use std::alloc::Global;
 use ufs_defs::inode::Inode;
 use ufs_defs::superblock::Superblock;
@@ -90,7 +92,7 @@ pub(super) fn read_root<S: Store>(
 }
 
 /// The content of the root.
-#[tactic(auto, using(crate::proofs::Reading::root_has_first_block, crate::proofs::Reading::root_fits_block))]
+#[tactic(auto, using(crate::proofs::Reading::root_has_block, crate::proofs::Reading::root_fits_block))]
 pub(super) fn read_content<S: Store>(
     alloc: Global,
     store: &mut S,
@@ -100,7 +102,7 @@ pub(super) fn read_content<S: Store>(
 ) -> Result<Vec<u8>, Status>
     requires size { size ≡ size_of Image (S.state store.old) }
     requires root { is_first_root size superblock.now root.now ≡ true }
-    ensures told { IfOk result (λ content. IfSome (told_image (S.state store.old)) (λ image. content.items ≡ part image (first_block superblock.now root.now) root.now.size)) }
+    ensures told { IfOk result (λ content. IfSome (told_image (S.state store.old)) (λ image. content.items ≡ part image (block_place superblock.now root.now 0) root.now.size)) }
     ensures len { IfOk result (λ content. length content.items ≡ root.now.size) }
     ensures same { S.state store.new ≡ S.state store.old }
     ensures refusals { IfErr result IsReadFailure }
@@ -109,43 +111,66 @@ pub(super) fn read_content<S: Store>(
     ensures calm { result ≢ Err Status.DeviceFault → S.faults store.new ≡ S.faults store.old }
 {
     let mut content = vec![in alloc; 0; root.size as usize]?;
-    read_part(store, block_at(size, superblock, root), &mut content)?;
+    read_part(store, block_at(size, superblock, root, 0), &mut content)?;
     Ok(content)
 }
 
-/// The file to which an entry leads.
-pub(super) fn read_file<'a, S: Store>(
+/// The file of the inode of a number, which some of these entries name.
+#[tactic(auto, using(crate::proofs::Reading::file_has_content))]
+fn read_file<S: Store>(
+    alloc: Global,
     store: &mut S,
     size: u64,
     superblock: &Superblock,
-    leading: Entry<'a>,
-) -> Result<NamedInode<'a>, Status>
+    entries: &[Entry<'_>],
+    number: u32,
+) -> Result<FileEntry, Status>
     requires size { size ≡ size_of Image (S.state store.old) }
+    requires reach { size ≤ 70368744177664 }
     requires first { is_first_superblock superblock.now ≡ true }
-    ensures told { IfSome (told_image (S.state store.old)) (λ image. Gives result (run image (first_file size superblock.now leading.entry))) }
-    ensures entry { IfOk result (λ named. named.entry ≡ leading.entry) }
-    ensures named { OnOk result (is_first_entry leading.entry ≡ true) }
-    ensures within { OnOk result (is_first_inode size superblock.now leading.entry.inode ≡ true) }
-    ensures file { IfOk result (λ named. is_first_file superblock.now named.inode ≡ true) }
-    ensures small { IfOk result (λ named. is_small_file size superblock.now named.inode ≡ true) }
+    requires named { list_all is_first_entry entries.now ≡ true }
+    ensures told { IfSome (told_image (S.state store.old)) (λ image. Gives result (run image (first_file size superblock.now entries.now number))) }
+    ensures file { IfOk result (λ file. IsFileOf size superblock.now entries.now number file) }
+    ensures within { OnOk result (is_first_inode size superblock.now number ≡ true) }
     ensures same { S.state store.new ≡ S.state store.old }
     ensures refusals { IfErr result IsImageRefusal }
     ensures counts { S.faults store.old ≤ S.faults store.new }
     ensures cause { IsErrOf result Status.DeviceFault → Rose (S.faults store.old) (S.faults store.new) }
     ensures calm { result ≢ Err Status.DeviceFault → S.faults store.new ≡ S.faults store.old }
 {
-    if !may_be_named(&leading) {
+    let inode = read_inode(store, size, superblock, number)?;
+    if !may_be_file(size, superblock, &inode) {
         return Err(Status::NotBuilt);
     }
-    let inode = read_inode(store, size, superblock, leading.inode)?;
-    if !may_be_file(superblock, &inode) {
-        return Err(Status::NotBuilt);
+    Ok(named_entry(alloc, size, superblock, entries, number, &inode)?)
+}
+
+/// The files of the inodes of these numbers.
+pub(super) fn read_files<S: Store>(
+    alloc: Global,
+    store: &mut S,
+    size: u64,
+    superblock: &Superblock,
+    entries: &[Entry<'_>],
+    numbers: &[u32],
+) -> Result<Vec<FileEntry>, Status>
+    requires size { size ≡ size_of Image (S.state store.old) }
+    requires reach { size ≤ 70368744177664 }
+    requires first { is_first_superblock superblock.now ≡ true }
+    requires named { list_all is_first_entry entries.now ≡ true }
+    ensures told { IfSome (told_image (S.state store.old)) (λ image. GivesItems result (run image (each (first_file size superblock.now entries.now) numbers.now))) }
+    ensures files { IfOk result (λ files. AreFilesOf size superblock.now entries.now numbers.now files.items) }
+    ensures within { OnOk result (All (λ number. is_first_inode size superblock.now number ≡ true) numbers.now) }
+    ensures same { S.state store.new ≡ S.state store.old }
+    ensures refusals { IfErr result IsImageRefusal }
+    ensures counts { S.faults store.old ≤ S.faults store.new }
+    ensures cause { IsErrOf result Status.DeviceFault → Rose (S.faults store.old) (S.faults store.new) }
+    ensures calm { result ≢ Err Status.DeviceFault → S.faults store.new ≡ S.faults store.old }
+{
+    let mut files = Vec::new(alloc);
+    for number in numbers {
+        let file = read_file(alloc, store, size, superblock, entries, *number)?;
+        files.push(file)?;
     }
-    if !has_one_block(size, superblock, &inode) {
-        return Err(Status::NotBuilt);
-    }
-    Ok(NamedInode {
-        entry: leading,
-        inode,
-    })
+    Ok(files)
 }

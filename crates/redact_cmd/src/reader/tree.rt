@@ -1,15 +1,19 @@
 //! The tree of an image of the first form.
-ghost use Rattle.std.specs.Prelude.{◌≡◌, ◌+◌, ◌<◌, ◌≤◌, true, IfOk, [], ◌∷◌};
+ghost use Rattle.std.specs.Prelude.{◌≡◌, ◌+◌, ◌<◌, ◌≤◌, true, IfOk, [], ◌∷◌, ◌++◌, map};
+ghost use Rattle.std.specs.List.{All, list_all};
 ghost use Rattle.range_defs.specs.Places.{covers, longest_ranges};
-ghost use Rattle.rx_tree.specs.Path.{joined_path};
 ghost use Rattle.rx_tree.specs.Within.{AreRangesWithin};
-ghost use Rattle.volume_defs.specs.FirstForm.{is_first_superblock, is_first_inode, is_first_root, is_first_entry, is_first_name, is_small_file, root_path, root_file, named_file, files_of};
+ghost use Rattle.volume_defs.specs.FirstForm.{is_first_superblock, is_first_inode, is_first_root, is_first_entry, root_path, root_file, named_file, named_inodes};
+ghost use Rattle.volume_defs.specs.FirstInvariants.{AreFilesOf};
+ghost use Rattle.volume_defs.specs.FirstReader.{inode_range};
 ghost use Rattle.volume_defs.specs.FirstTree.{whole_volume, tree_of};
 ghost use Rattle.volume_defs.specs.FirstRanges.{first_ranges};
+ghost use Rattle.redact_cmd.specs.Content.{has_content};
 
 use super::content::content_of;
-use super::directory::NamedInode;
+use super::directory::Entry;
 use super::form::{block_at, inode_at};
+use super::names::names_of;
 use range_defs::Range;
 use rx_ranges::{NoMemory, RangeList, Text};
 use rx_tree::{FileEntry, FileId, Files, FsKind, Kind, Names, Part, Parts, Tree, Volume, Volumes};
@@ -17,43 +21,39 @@ use std::alloc::Global;
 use ufs_defs::inode::Inode;
 use ufs_defs::superblock::Superblock;
 
-/// The path of a name in the root.
-#[tactic(auto, using(crate::proofs::Tree::first_name_is_utf8))]
-fn path_of(alloc: Global, name: &[u8]) -> Result<Text, NoMemory>
-    requires { is_first_name name.now ≡ true }
-    ensures { IfOk result (λ path. path ≡ joined_path root_path name.now) }
-{
-    let name = str::from_utf8(name).unwrap();
-    let mut path = String::from_str(alloc, "/")?;
-    path.push_str(name)?;
-    Ok(Text::from_string(path))
-}
-
-/// A file with one name, and with its content as its one part.
+/// A file with these names, and with its content as its one part.
 fn file_with(
     alloc: Global,
     number: u64,
     kind: Kind,
-    name: Text,
+    names: Names,
     content: Part,
 ) -> Result<FileEntry, NoMemory>
     ensures { IfOk result (λ file. file ≡ record {
       id = record { volume = 0; number = number };
       kind = kind;
-      names = name ∷ [];
+      names = names;
       parts = content ∷ [];
     }) }
 {
     Ok(FileEntry {
         id: FileId { volume: 0, number },
         kind,
-        names: Names::from_vec(vec![in alloc; name]?),
+        names,
         parts: Parts::from_vec(vec![in alloc; content]?),
     })
 }
 
+/// The one name of the root.
+fn root_names(alloc: Global) -> Result<Names, NoMemory>
+    ensures { IfOk result (λ names. names ≡ root_path ∷ []) }
+{
+    let path = Text::from_str(alloc, "/")?;
+    Ok(Names::from_vec(vec![in alloc; path]?))
+}
+
 /// The root as a file.
-#[tactic(auto, using(crate::proofs::Reading::root_is_small))]
+#[tactic(auto, using(crate::proofs::Reading::root_has_content))]
 fn root_entry(
     alloc: Global,
     size: u64,
@@ -66,79 +66,93 @@ fn root_entry(
     ensures { IfOk result (λ file. file ≡ root_file superblock.now root.now) }
 {
     let content = content_of(alloc, size, superblock, root)?;
-    file_with(alloc, 2, Kind::Dir, Text::from_str(alloc, "/")?, content)
+    file_with(alloc, 2, Kind::Dir, root_names(alloc)?, content)
 }
 
-/// The file to which an entry of the root leads.
-fn named_entry(
+/// The file of an inode, which some of these entries name.
+pub(super) fn named_entry(
     alloc: Global,
     size: u64,
     superblock: &Superblock,
-    named: &NamedInode<'_>,
+    entries: &[Entry<'_>],
+    number: u32,
+    inode: &Inode,
 ) -> Result<FileEntry, NoMemory>
     requires reach { size ≤ 70368744177664 }
     requires first { is_first_superblock superblock.now ≡ true }
-    requires name { is_first_name named.now.entry.name ≡ true }
-    requires small { is_small_file size superblock.now named.now.inode ≡ true }
-    ensures { IfOk result (λ file. file ≡ named_file superblock.now named.now) }
+    requires named { list_all is_first_entry entries.now ≡ true }
+    requires content { has_content size superblock.now inode.now ≡ true }
+    ensures { IfOk result (λ file. file ≡ named_file superblock.now entries.now number inode.now) }
 {
-    let content = content_of(alloc, size, superblock, &named.inode)?;
-    let name = path_of(alloc, named.entry.name)?;
-    file_with(
-        alloc,
-        u64::from(named.entry.inode),
-        Kind::File,
-        name,
-        content,
-    )
+    let content = content_of(alloc, size, superblock, inode)?;
+    let names = names_of(alloc, entries, number)?;
+    file_with(alloc, u64::from(number), Kind::File, names, content)
 }
 
 /// The bytes on which the tree rests.
-#[tactic(auto, using(crate::proofs::Reading::root_has_first_block, crate::proofs::Reading::root_fits_block, crate::proofs::Tree::guard_is))]
 fn guard_from(
     alloc: Global,
     size: u64,
     superblock: &Superblock,
     root: &Inode,
-    named: &NamedInode<'_>,
+    numbers: &[u32],
 ) -> Result<RangeList, NoMemory>
     requires long { 66912 ≤ size }
     requires reach { size ≤ 70368744177664 }
     requires first { is_first_superblock superblock.now ≡ true }
     requires has_root { is_first_inode size superblock.now 2 ≡ true }
     requires root { is_first_root size superblock.now root.now ≡ true }
-    requires has_inode { is_first_inode size superblock.now named.now.entry.inode ≡ true }
+    requires has_inodes { All (λ number. is_first_inode size superblock.now number ≡ true) numbers.now }
     ensures guard { IfOk result
-        (λ guard. guard ≡ longest_ranges (covers (first_ranges superblock.now root.now named.now.entry.inode)) 0 size) }
+        (λ guard. guard ≡ longest_ranges (covers (first_ranges superblock.now root.now numbers.now)) 0 size) }
     ensures within { IfOk result (AreRangesWithin size) }
 {
-    let ranges = looked_at(alloc, size, superblock, root, named)?;
+    let ranges = looked_at(alloc, size, superblock, root, numbers)?;
     RangeList::from_ranges(alloc, ranges)
 }
 
 /// The ranges of the image at which one looks for its files.
-#[tactic(auto, using(crate::proofs::Reading::root_has_first_block, crate::proofs::Reading::root_fits_block))]
+#[tactic(auto, using(crate::proofs::Reading::root_has_block, crate::proofs::Reading::root_fits_block))]
 fn looked_at(
     alloc: Global,
     size: u64,
     superblock: &Superblock,
     root: &Inode,
-    named: &NamedInode<'_>,
+    numbers: &[u32],
 ) -> Result<Vec<Range>, NoMemory>
     requires long { 66912 ≤ size }
     requires first { is_first_superblock superblock.now ≡ true }
     requires has_root { is_first_inode size superblock.now 2 ≡ true }
     requires root { is_first_root size superblock.now root.now ≡ true }
-    requires has_inode { is_first_inode size superblock.now named.now.entry.inode ≡ true }
-    ensures ranges { IfOk result (λ ranges. ranges.items ≡ first_ranges superblock.now root.now named.now.entry.inode) }
+    requires has_inodes { All (λ number. is_first_inode size superblock.now number ≡ true) numbers.now }
+    ensures ranges { IfOk result (λ ranges. ranges.items ≡ first_ranges superblock.now root.now numbers.now) }
     ensures within { IfOk result (λ ranges. AreRangesWithin size ranges.items) }
 {
     let mut ranges = Vec::new(alloc);
     ranges.extend_from_slice(&FIXED_RANGES)?;
     ranges.push(range(inode_at(size, superblock, 2), 256))?;
-    ranges.push(range(block_at(size, superblock, root), root.size))?;
-    ranges.push(range(inode_at(size, superblock, named.entry.inode), 256))?;
+    ranges.push(range(block_at(size, superblock, root, 0), root.size))?;
+    push_inode_ranges(&mut ranges, size, superblock, numbers)?;
     Ok(ranges)
+}
+
+/// Appends the ranges of the inodes of these numbers.
+fn push_inode_ranges(
+    ranges: &mut Vec<Range>,
+    size: u64,
+    superblock: &Superblock,
+    numbers: &[u32],
+) -> Result<(), NoMemory>
+    requires first { is_first_superblock superblock.now ≡ true }
+    requires has_inodes { All (λ number. is_first_inode size superblock.now number ≡ true) numbers.now }
+    requires within { AreRangesWithin size ranges.old.items }
+    ensures ranges { IfOk result (λ _. ranges.new.items ≡ ranges.old.items ++ map (inode_range superblock.now) numbers.now) }
+    ensures within { IfOk result (λ _. AreRangesWithin size ranges.new.items) }
+{
+    for number in numbers {
+        ranges.push(range(inode_at(size, superblock, *number), 256))?;
+    }
+    Ok(())
 }
 
 fn range(at: u64, len: u64) -> Range
@@ -168,25 +182,24 @@ fn no_ranges(alloc: Global) -> Result<RangeList, NoMemory>
     RangeList::from_ranges(alloc, Vec::new(alloc))
 }
 
-/// The root, and the file to which its entry leads.
-#[tactic(auto, using(crate::proofs::Tree::entry_has_name))]
+/// The root and the files that it names.
 fn files_from(
     alloc: Global,
     size: u64,
     superblock: &Superblock,
     root: &Inode,
-    named: &NamedInode<'_>,
+    entries: &[Entry<'_>],
+    mut files: Vec<FileEntry>,
 ) -> Result<Files, NoMemory>
     requires reach { size ≤ 70368744177664 }
     requires first { is_first_superblock superblock.now ≡ true }
     requires root { is_first_root size superblock.now root.now ≡ true }
-    requires name { is_first_entry named.now.entry ≡ true }
-    requires small { is_small_file size superblock.now named.now.inode ≡ true }
-    ensures { IfOk result (λ files. files ≡ files_of superblock.now root.now (named.now ∷ [])) }
+    requires named { list_all is_first_entry entries.now ≡ true }
+    requires files { AreFilesOf size superblock.now entries.now (named_inodes entries.now) files.items }
+    ensures { IfOk result (λ all. all ≡ root_file superblock.now root.now ∷ files.items) }
 {
-    let root_file = root_entry(alloc, size, superblock, root)?;
-    let named_file = named_entry(alloc, size, superblock, named)?;
-    Ok(Files::from_vec(vec![in alloc; root_file, named_file]?))
+    files.insert(0, root_entry(alloc, size, superblock, root)?)?;
+    Ok(Files::from_vec(files))
 }
 
 /// The whole image as a volume.
@@ -208,25 +221,28 @@ pub(super) fn tree_from(
     size: u64,
     superblock: &Superblock,
     root: &Inode,
-    named: &NamedInode<'_>,
+    entries: &[Entry<'_>],
+    numbers: &[u32],
+    files: Vec<FileEntry>,
 ) -> Result<Tree, NoMemory>
     requires long { 66912 ≤ size }
     requires reach { size ≤ 70368744177664 }
     requires first { is_first_superblock superblock.now ≡ true }
     requires has_root { is_first_inode size superblock.now 2 ≡ true }
     requires root { is_first_root size superblock.now root.now ≡ true }
-    requires name { is_first_entry named.now.entry ≡ true }
-    requires has_inode { is_first_inode size superblock.now named.now.entry.inode ≡ true }
-    requires small { is_small_file size superblock.now named.now.inode ≡ true }
+    requires named { list_all is_first_entry entries.now ≡ true }
+    requires numbers { numbers.now ≡ named_inodes entries.now }
+    requires has_inodes { All (λ number. is_first_inode size superblock.now number ≡ true) numbers.now }
+    requires files { AreFilesOf size superblock.now entries.now numbers.now files.items }
     ensures { IfOk result (λ tree. tree ≡ tree_of size
-        (longest_ranges (covers (first_ranges superblock.now root.now named.now.entry.inode)) 0 size)
-        (files_of superblock.now root.now (named.now ∷ []))) }
+        (longest_ranges (covers (first_ranges superblock.now root.now numbers.now)) 0 size)
+        (root_file superblock.now root.now ∷ files.items)) }
 {
     Ok(Tree {
         image_len: size,
         volumes: volumes_of(alloc, size)?,
         unread: no_ranges(alloc)?,
-        files: files_from(alloc, size, superblock, root, named)?,
-        guard: guard_from(alloc, size, superblock, root, named)?,
+        files: files_from(alloc, size, superblock, root, entries, files)?,
+        guard: guard_from(alloc, size, superblock, root, numbers)?,
     })
 }

@@ -1,6 +1,6 @@
 use Rattle.std.proofs.Common.{[], ◌∷◌, ◌++◌, ap, sym, ◌∙◌, arith}
 use Rattle.ufs_defs.specs.Directory.{leads_on}
-use Rattle.redact_cmd.proofs.Reading.{passed_leading, passed_other, passed_all, passed_no_entry}
+use Rattle.redact_cmd.proofs.Entries.{passed_leading, passed_other, passed_all, passed_no_entry}
 use Rattle.redact_cmd.proofs.reader.directory.leading_entries.Goals as goal
 
 pub returns-then-not-is_entry-clause-entries : goal.returns-then-not-is_entry-clause-entries

@@ -1,5 +1,5 @@
 use Rattle.std.proofs.Common.{◌-◌, length}
-use Rattle.redact_cmd.proofs.Reading.{HasPassed}
+use Rattle.redact_cmd.proofs.Entries.{HasPassed}
 use Rattle.redact_cmd.proofs.reader.directory.leading_entries.Given as goal
 
 -- the leading ones of the entries in front of a place were found

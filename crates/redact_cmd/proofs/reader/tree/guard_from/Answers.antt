@@ -11,7 +11,7 @@ returns-clause-guard c =
     let P : List Range → Type 0 = λ ranges. AreRangesWithin c.args.size ranges in
     let within = subst P c.in_ok-ranges.ensures.ranges c.in_ok-ranges.ensures.within in
     ok_map c.from_ranges.result c.from_ranges.ensures.bytes c.from_ranges.ensures.kept
-    (λ list bytes kept. guard_is list (first_ranges c.args.superblock.now c.args.root.now c.args.named.now.entry.inode) c.args.size kept (λ byte. bytes byte ∙ ap (λ ranges. covers ranges byte) c.in_ok-ranges.ensures.ranges) within)
+    (λ list bytes kept. guard_is list (first_ranges c.args.superblock.now c.args.root.now c.args.numbers.now) c.args.size kept (λ byte. bytes byte ∙ ap (λ ranges. covers ranges byte) c.in_ok-ranges.ensures.ranges) within)
 
 pub returns-clause-within : goal.returns-clause-within
 returns-clause-within c =

@@ -1,0 +1,18 @@
+use Rattle.std.proofs.Common.{◌≡◌, List, ℕ, IsSorted, sym, subst, ◌∙◌}
+use Rattle.std.specs.Cmp.Lexicographic.{slice_cmp}
+use Rattle.std.specs.Ordering.{nat_cmp}
+use Rattle.redact_cmd.proofs.Names.{sorted_paths, names_sorted}
+use Rattle.redact_cmd.proofs.reader.names.names_of.Goals as goal
+
+pub from_vec-requires : goal.from_vec-requires
+from_vec-requires c =
+    let P : List (List ℕ) → Type 0 = λ names. IsSorted (slice_cmp nat_cmp) names in
+    subst P
+    (sym (c.in_ok-texts_of.ensures
+    ∙ sorted_paths c.args.entries.now c.args.number c.in_ok-paths.paths.items c.sort.new.self.items c.in_ok-paths.ensures c.in_ok-sort.ensures.permutation c.in_ok-sort.ensures.sorted))
+    (names_sorted c.args.entries.now c.args.number)
+
+pub returns : goal.returns
+returns c =
+    c.from_vec.ensures ∙ c.in_ok-texts_of.ensures
+    ∙ sorted_paths c.args.entries.now c.args.number c.in_ok-paths.paths.items c.sort.new.self.items c.in_ok-paths.ensures c.in_ok-sort.ensures.permutation c.in_ok-sort.ensures.sorted

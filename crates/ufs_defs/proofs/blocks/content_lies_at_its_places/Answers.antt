@@ -1,0 +1,5 @@
+use Rattle.ufs_defs.specs.SlackLaws.{content_law}
+use Rattle.ufs_defs.proofs.blocks.content_lies_at_its_places.Goals as goal
+
+pub returns : goal.returns
+returns c = content_law
