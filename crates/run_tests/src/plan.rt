@@ -1,7 +1,9 @@
 //! The command `plan` on the small image and on images that differ from it.
 ghost use Rattle.std.specs.Prelude.{◌≡◌, ◌+◌, ◌≤◌, length, vec_len, IfOk};
 
-use crate::small_image::{ENTRIES, FILE, ROOT, SUPERBLOCK, put, small_image};
+use crate::small_image::{
+    ENTRIES, FILE, ROOT, SUPERBLOCK, put, put_entry, put_inode, put_pointers, small_image,
+};
 use redact_cmd::{PlanRefusal, Status, run};
 use rx_store::{MemSink, MemSource, MemStore};
 use std::alloc::{AllocError, Global};
@@ -208,8 +210,7 @@ fn images_of_another_form_are_not_built(rt: HostRuntime) -> Result<(), Fail> {
         (ENTRIES + 32, b"/"),
         (ENTRIES + 24, b"\x10"),
         (ENTRIES + 24, b"\x02"),
-        (ENTRIES + 24, b"\x01"),
-        // the file: a folder, a snapshot, an extended area, a size of more than a block, a pointer that is negative, that
+        // the file: a folder, a snapshot, an extended area, a second block without a pointer, a pointer that is negative, that
         // leads past the end, and that is 0
         (FILE, b"\xA4\x41"),
         (FILE + 88, b"\x00\x00\x20\x00"),
@@ -257,5 +258,131 @@ fn a_plan_that_meets_the_guard_is_refused(rt: HostRuntime) -> Result<(), Fail> {
         assert_eq!(rt; status.code(), 7);
         assert!(rt; text.is_empty());
     }
+    Ok(())
+}
+
+/// The text of `plan`, which is Done.
+fn report_of(rt: &HostRuntime, image: Vec<u8>, rules: &[u8]) -> Result<Vec<u8>, AllocError> {
+    let (status, text) = planned(rt.alloc(), image, rules)?;
+    assert_eq!(rt; status, Status::Done);
+    Ok(text)
+}
+
+/// The small image with a second entry `b` of this inode.
+fn with_two_entries(alloc: Global, inode: u32) -> Result<Vec<u8>, AllocError>
+    ensures { IfOk result (λ image. vec_len image ≡ 262144) }
+{
+    let mut image = small_image(alloc)?;
+    put_entry(&mut image, ENTRIES + 24, 3, 12, b"a");
+    put_entry(&mut image, ENTRIES + 36, inode, 476, b"b");
+    Ok(image)
+}
+
+#[test]
+fn a_file_with_two_names_is_listed_with_both(rt: HostRuntime) -> Result<(), Fail> {
+    let image = with_two_entries(rt.alloc(), 3)?;
+    let text = report_of(&rt, image, b"FILENAME \"b\" FILL 0x0a")?;
+    assert_eq!(rt;
+        text.as_slice(),
+        b"redaction planned\nimage 262144\nranges 1\nbytes 3\nRANGE 86016 3 1 0x0A\nFILE 1 /a\nFILE 1 /b\n".as_slice()
+    );
+    Ok(())
+}
+
+#[test]
+fn a_file_that_shares_a_block_is_an_alias(rt: HostRuntime) -> Result<(), Fail> {
+    let alloc = rt.alloc();
+    for (rule, report) in [
+        (
+            b"FILENAME \"a\" FILL 0x58".as_slice(),
+            b"redaction planned\nimage 262144\nranges 1\nbytes 3\nRANGE 86016 3 1 0x58\nFILE 1 /a\nALIAS /b\n".as_slice(),
+        ),
+        (
+            b"FILENAME \"b\" FILL 0x58",
+            b"redaction planned\nimage 262144\nranges 1\nbytes 2\nRANGE 86016 2 1 0x58\nALIAS /a\nFILE 1 /b\n",
+        ),
+    ] {
+        let mut image = with_two_entries(alloc, 4)?;
+        put_inode(&mut image, FILE + 256, 0x81A4, 2, 21);
+        let text = report_of(&rt, image, rule)?;
+        assert_eq!(rt; text.as_slice(), report);
+    }
+    Ok(())
+}
+
+#[test]
+fn the_blocks_of_a_file_are_planned(rt: HostRuntime) -> Result<(), Fail> {
+    let alloc = rt.alloc();
+    for (size, pointers, report) in [
+        // exactly twelve blocks in two rows
+        (
+            49152u64,
+            [21i64, 22, 23, 24, 25, 26, 40, 41, 42, 43, 44, 45],
+            b"redaction planned\nimage 262144\nranges 2\nbytes 49152\nRANGE 86016 24576 1 0x58\nRANGE 163840 24576 1 0x58\nFILE 1 /a\n".as_slice(),
+        ),
+        // a last block that is partly used, and pointers behind it
+        (
+            8195,
+            [21, 22, 30, -1, 0, 64, 0, 0, 0, 0, 0, 0],
+            b"redaction planned\nimage 262144\nranges 2\nbytes 8195\nRANGE 86016 8192 1 0x58\nRANGE 122880 3 1 0x58\nFILE 1 /a\n",
+        ),
+        // blocks out of order
+        (
+            8192,
+            [31, 30, 0, 0, 0, 0, 0, 0, 0, 0, 0, 0],
+            b"redaction planned\nimage 262144\nranges 1\nbytes 8192\nRANGE 122880 8192 1 0x58\nFILE 1 /a\n",
+        ),
+        // an empty file
+        (
+            0,
+            [0, 0, 0, 0, 0, 0, 0, 0, 0, 0, 0, 0],
+            b"redaction planned\nimage 262144\nranges 0\nbytes 0\n",
+        ),
+    ] {
+        let mut image = small_image(alloc)?;
+        put_inode(&mut image, FILE, 0x81A4, size, 0);
+        put_pointers(&mut image, FILE, &pointers);
+        let text = report_of(&rt, image, RULE)?;
+        assert_eq!(rt; text.as_slice(), report, "{size} bytes");
+    }
+    Ok(())
+}
+
+#[test]
+fn more_than_twelve_blocks_are_not_built(rt: HostRuntime) -> Result<(), Fail> {
+    let mut image = small_image(rt.alloc())?;
+    put_inode(&mut image, FILE, 0x81A4, 49153, 0);
+    put_pointers(
+        &mut image,
+        FILE,
+        &[21, 22, 23, 24, 25, 26, 27, 28, 29, 30, 31, 32],
+    );
+    let (status, _text) = planned(rt.alloc(), image, RULE)?;
+    assert_eq!(rt; status, Status::NotBuilt);
+    Ok(())
+}
+
+#[test]
+fn the_whole_root_is_read(rt: HostRuntime) -> Result<(), Fail> {
+    let mut image = small_image(rt.alloc())?;
+    put_inode(&mut image, ROOT, 0x41ED, 1024, 20);
+    put_entry(&mut image, ENTRIES + 512, 4, 512, b"b");
+    put_inode(&mut image, FILE + 256, 0x81A4, 4096, 22);
+    let text = report_of(&rt, image, b"FILENAME \"b\" FILL 0x58\n")?;
+    assert_eq!(rt;
+        text.as_slice(),
+        b"redaction planned\nimage 262144\nranges 1\nbytes 4096\nRANGE 90112 4096 1 0x58\nFILE 1 /b\n".as_slice()
+    );
+    Ok(())
+}
+
+#[test]
+fn a_root_without_files_has_an_empty_plan(rt: HostRuntime) -> Result<(), Fail> {
+    let image = changed(rt.alloc(), ENTRIES + 24, b"\x01")?;
+    let text = report_of(&rt, image, RULE)?;
+    assert_eq!(rt;
+        text.as_slice(),
+        b"redaction planned\nimage 262144\nranges 0\nbytes 0\n".as_slice()
+    );
     Ok(())
 }

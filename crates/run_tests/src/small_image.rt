@@ -22,12 +22,23 @@ pub(crate) fn put(image: &mut [u8], at: usize, bytes: &[u8])
 }
 
 /// Writes an inode's mode, size and first pointer.
-fn put_inode(image: &mut [u8], at: usize, mode: u16, size: u64, pointer: i64)
+pub(crate) fn put_inode(image: &mut [u8], at: usize, mode: u16, size: u64, pointer: i64)
     requires { at + 256 ≤ length image.old }
 {
     put(image, at, &mode.to_le_bytes());
     put(image, at + 16, &size.to_le_bytes());
     put(image, at + 112, &pointer.to_le_bytes());
+}
+
+/// Writes an inode's twelve pointers.
+pub(crate) fn put_pointers(image: &mut [u8], at: usize, pointers: &[i64; 12])
+    requires { at + 256 ≤ length image.old }
+{
+    for (i, pointer) in pointers.iter().enumerate() {
+        if i < 12 {
+            put(image, at + 112 + 8 * i, &pointer.to_le_bytes());
+        }
+    }
 }
 
 /// Writes an entry with a name at a place of the root's block.

@@ -1,4 +1,4 @@
-use Rattle.std.proofs.Common.{◌∷◌, [], refl, sym}
+use Rattle.std.proofs.Common.{◌∷◌, [], sym}
 use Rattle.redact_cmd.proofs.Guarded.{names_guarded}
 use Rattle.redact_cmd.proofs.commands.unguarded_plan.Goals as goal
 

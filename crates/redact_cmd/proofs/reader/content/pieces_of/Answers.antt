@@ -1,9 +1,6 @@
-use Rattle.std.proofs.Common.{◌≡◌, ◌+◌, ◌<◌, ◌≤◌, List, ℕ, [], ◌∷◌, ◌++◌, true, ap, sym, subst, ◌∙◌, arith}
+use Rattle.std.proofs.Common.{List, [], ap, sym, subst, ◌∙◌, arith}
 use Rattle.rx_ranges.specs.declared.pieces.Piece.{Piece}
-use Rattle.rx_tree.specs.Covering.{goes_on}
-use Rattle.ufs_defs.specs.Joined.{grown}
-use Rattle.ufs_defs.specs.Blocks.{block_count, block_piece}
-use Rattle.ufs_defs.specs.BlockLaws.{AreJoinedTo, content_pieces_none, joining_starts, joining_grows, joining_begins_anew, joining_ends}
+use Rattle.ufs_defs.specs.BlockLaws.{AreJoinedTo, content_pieces_none, joining_starts, joining_ends}
 use Rattle.redact_cmd.proofs.Reading.{next_grows, next_begins_anew}
 use Rattle.redact_cmd.proofs.reader.content.pieces_of.Goals as goal
 use Rattle.redact_cmd.proofs.reader.content.pieces_of.Goals.{then-goes_on, else-goes_on+in_ok-push}

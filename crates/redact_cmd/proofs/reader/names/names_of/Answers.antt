@@ -1,4 +1,4 @@
-use Rattle.std.proofs.Common.{◌≡◌, List, ℕ, IsSorted, sym, subst, ◌∙◌}
+use Rattle.std.proofs.Common.{List, ℕ, IsSorted, sym, subst, ◌∙◌}
 use Rattle.std.specs.Cmp.Lexicographic.{slice_cmp}
 use Rattle.std.specs.Ordering.{nat_cmp}
 use Rattle.redact_cmd.proofs.Names.{sorted_paths, names_sorted}

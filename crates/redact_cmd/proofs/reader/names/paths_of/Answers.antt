@@ -1,4 +1,4 @@
-use Rattle.std.proofs.Common.{ap, sym, ◌∙◌}
+use Rattle.std.proofs.Common.{ap, ◌∙◌}
 use Rattle.volume_defs.specs.FirstForm.{is_first_name}
 use Rattle.redact_cmd.proofs.Names.{entry_has_name}
 use Rattle.redact_cmd.proofs.reader.names.paths_of.Goals as goal
