@@ -1,10 +1,7 @@
 -- What the tree of an image of the first form rests on.
-use Rattle.std.proofs.Common.{◌≡◌, ℕ, zero, suc, ◌+◌, ◌<◌, ◌≤◌, Bool, true, false, ◌&&◌, ◌==◌, not, nat_le, Result, Ok, Err, IfOk, List, [], ◌∷◌, ◌++◌, IsSorted, refl, sym, ap, subst, ◌∙◌, arith}
-use Rattle.std.specs.Cmp.Lexicographic.{slice_cmp}
-use Rattle.std.specs.Ordering.{nat_cmp}
-use Rattle.std.specs.List.{All, list_all}
+use Rattle.std.proofs.Common.{◌≡◌, ℕ, zero, suc, ◌+◌, ◌<◌, ◌≤◌, Bool, true, false, ◌&&◌, ◌==◌, not, nat_le, Result, Ok, Err, IfOk, List, [], ◌∷◌, refl, sym, ap, ◌∙◌, arith}
 use Rattle.std.specs.Str.{IsUtf8, IsAscii}
-use Rattle.std.proofs.lemmas.Bool.{leb-true, lt-ltb}
+use Rattle.std.proofs.lemmas.Bool.{leb-true}
 use Rattle.std.proofs.lemmas.Bool.Decides.{nat_tests}
 use Rattle.std.proofs.lemmas.List.Elements.{All-cons, All-nil}
 use Rattle.std.proofs.lemmas.Str.{IsUtf8-from_ascii}
@@ -13,19 +10,11 @@ use Rattle.range_defs.specs.Places.{covers, IsRangeList, longest_ranges}
 use Rattle.range_defs.specs.RangeLaws.{same_range_list, same_as_longest_ranges, ends_where_covered}
 use Rattle.image_defs.specs.Guard.{covers-past}
 use Rattle.rx_tree.specs.FoundTree.{FoundTree}
-use Rattle.rx_tree.specs.Order.{StandsBeforeAll, HaveRisingIds}
-use Rattle.rx_tree.specs.Within.{AreRangesWithin, AreFilesWithin, ArePartsWithin, IsWithin}
+use Rattle.rx_tree.specs.Within.{AreRangesWithin, AreFilesWithin, IsWithin}
 use Rattle.rx_tree.specs.declared.file.FileEntry.{FileEntry}
 use Rattle.rx_tree.specs.declared.volume.Volume.{Volume}
-use Rattle.ufs_defs.specs.Directory.{Entry}
-use Rattle.ufs_defs.specs.SlackLaws.{content_within}
-use Rattle.ufs_defs.specs.declared.superblock.Superblock.{Superblock}
-use Rattle.ufs_defs.specs.declared.inode.Inode.{Inode}
-use Rattle.volume_defs.specs.RisingNumbers.{RiseAbove}
-use Rattle.volume_defs.specs.FirstForm.{is_first_name, is_first_entry, is_first_superblock, is_first_root, named_inodes, named_file, root_file}
+use Rattle.volume_defs.specs.FirstForm.{is_first_name}
 use Rattle.volume_defs.specs.FirstTree.{whole_volume, tree_of}
-use Rattle.volume_defs.specs.FirstKept.{first_block_size, root_blocks_within, file_blocks_within, named_inodes_rise}
-use Rattle.volume_defs.specs.FirstInvariants.{IsFileOf, AreFilesOf}
 
 first_name-ascii : (name : List ℕ) → is_first_name name ≡ true → IsAscii name
 first_name-ascii [] first i = omega arith
@@ -63,55 +52,6 @@ none_is list kept agree = same_range_list list [] kept tt agree
 pub ok_map : {T E : Type 0} {A B C : T → Type 0} (result : Result T E) → IfOk result A → IfOk result B → ((x : T) → A x → B x → C x) → IfOk result C
 ok_map (Ok x) first second follows = follows x first second
 ok_map (Err e) first second follows = tt
-
--- one name is sorted
-pub one_name_sorted : (name : List ℕ) → IsSorted (slice_cmp nat_cmp) (name ∷ [])
-one_name_sorted name = λ k d low high. absurd (omega (arith, high))
-
--- ---- the files
-
--- one more file
-pub files_more : (size : ℕ) (superblock : Superblock) (entries : List Entry) (numbers : List ℕ) (files : List FileEntry) (number : ℕ) (file : FileEntry)
-    → AreFilesOf size superblock entries numbers files → IsFileOf size superblock entries number file → AreFilesOf size superblock entries (numbers ++ number ∷ []) (files ++ file ∷ [])
-files_more size superblock entries [] [] number file before is = (is, tt)
-files_more size superblock entries [] (first ∷ files) number file before is = absurd before
-files_more size superblock entries (one ∷ numbers) [] number file before is = absurd before
-files_more size superblock entries (one ∷ numbers) (first ∷ files) number file before is = (before.0, files_more size superblock entries numbers files number file before.1 is)
-
--- they stand by rising number
-files_rise : (size : ℕ) (superblock : Superblock) (entries : List Entry) (low : ℕ) (numbers : List ℕ) (files : List FileEntry) → RiseAbove low numbers → AreFilesOf size superblock entries numbers files
-    → StandsBeforeAll (record { volume = 0; number = low }) files × HaveRisingIds files
-files_rise size superblock entries low [] [] rise are = (tt, tt)
-files_rise size superblock entries low [] (file ∷ files) rise are = absurd are
-files_rise size superblock entries low (number ∷ numbers) [] rise are = absurd are
-files_rise size superblock entries low (number ∷ numbers) (file ∷ files) rise are =
-    let P : FileEntry → Type 0 = λ found. StandsBeforeAll (record { volume = 0; number = low }) (found ∷ files) × HaveRisingIds (found ∷ files) in
-    subst P (sym are.0.whole) (lt-ltb low number rise.0, files_rise size superblock entries number numbers files rise.1 are.1)
-
-pub all_files_rise : (size : ℕ) (superblock : Superblock) (root : Inode) (entries : List Entry) (files : List FileEntry) → list_all is_first_entry entries ≡ true
-    → AreFilesOf size superblock entries (named_inodes entries) files → HaveRisingIds (root_file superblock root ∷ files)
-all_files_rise size superblock root entries files named are = files_rise size superblock entries 2 (named_inodes entries) files (named_inodes_rise entries named) are
-
--- they lie in the image
-files_within : (size : ℕ) (superblock : Superblock) (entries : List Entry) (numbers : List ℕ) (files : List FileEntry) → is_first_superblock superblock ≡ true
-    → AreFilesOf size superblock entries numbers files → AreFilesWithin size files
-files_within size superblock entries [] [] first are = All-nil (λ file. ArePartsWithin size file.parts)
-files_within size superblock entries [] (file ∷ files) first are = absurd are
-files_within size superblock entries (number ∷ numbers) [] first are = absurd are
-files_within size superblock entries (number ∷ numbers) (file ∷ files) first are =
-    let P : FileEntry → Type 0 = λ found. ArePartsWithin size found.parts in
-    All-cons P file files
-    (subst P (sym are.0.whole) (content_within size superblock are.0.inode (first_block_size superblock first) (file_blocks_within size superblock are.0.inode are.0.good)))
-    (files_within size superblock entries numbers files first are.1)
-
-pub all_files_within : (size : ℕ) (superblock : Superblock) (root : Inode) (entries : List Entry) (files : List FileEntry) → is_first_superblock superblock ≡ true → is_first_root size superblock root ≡ true
-    → AreFilesOf size superblock entries (named_inodes entries) files → AreFilesWithin size (root_file superblock root ∷ files)
-all_files_within size superblock root entries files first rooted are =
-    All-cons (λ file. ArePartsWithin size file.parts) (root_file superblock root) files
-    (content_within size superblock root (first_block_size superblock first) (root_blocks_within size superblock root first rooted))
-    (files_within size superblock entries (named_inodes entries) files first are)
-
--- ---- the tree
 
 -- all that the tree says lies in the image
 pub tree_within : (size : ℕ) (files : List FileEntry) (guard : List Range) → size ≤ 70368744177664 → AreFilesWithin size files → AreRangesWithin size guard → IsWithin (tree_of size guard files)

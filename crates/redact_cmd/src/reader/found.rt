@@ -8,7 +8,7 @@ ghost use Rattle.image_defs.specs.Ask.{run, each};
 ghost use Rattle.image_defs.specs.Bytes.{part};
 ghost use Rattle.ufs_defs.specs.Blocks.{block_place};
 ghost use Rattle.volume_defs.specs.FirstForm.{is_first_superblock, is_first_inode, is_first_root, is_first_entry, first_superblock, first_inode, first_root, first_file};
-ghost use Rattle.volume_defs.specs.FirstInvariants.{IsFileOf, AreFilesOf};
+ghost use Rattle.volume_defs.specs.FoundFiles.{IsFileOf, AreFilesOf};
 ghost use Rattle.redact_cmd.specs.Stages.{Gives, GivesItems, IsImageRefusal, IsReadFailure};
 
 use super::directory::Entry;
@@ -131,7 +131,6 @@ fn read_file<S: Store>(
     requires named { list_all is_first_entry entries.now ≡ true }
     ensures told { IfSome (told_image (S.state store.old)) (λ image. Gives result (run image (first_file size superblock.now entries.now number))) }
     ensures file { IfOk result (λ file. IsFileOf size superblock.now entries.now number file) }
-    ensures within { OnOk result (is_first_inode size superblock.now number ≡ true) }
     ensures same { S.state store.new ≡ S.state store.old }
     ensures refusals { IfErr result IsImageRefusal }
     ensures counts { S.faults store.old ≤ S.faults store.new }

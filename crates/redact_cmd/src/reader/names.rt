@@ -1,8 +1,8 @@
 //! The inodes that entries name, and their names.
-ghost use Rattle.std.specs.Prelude.{◌≡◌, ◌==◌, true, IfOk, map, string_bytes};
-ghost use Rattle.std.specs.List.{filter, list_all};
+ghost use Rattle.std.specs.Prelude.{◌≡◌, true, IfOk, map, string_bytes};
+ghost use Rattle.std.specs.List.{list_all};
 ghost use Rattle.rx_tree.specs.Path.{joined_path};
-ghost use Rattle.volume_defs.specs.FirstForm.{is_first_entry, is_first_name, root_path, named_inodes as named_inodes_by, names_of as names_by};
+ghost use Rattle.volume_defs.specs.FirstForm.{is_first_entry, is_first_name, root_path, paths_of as paths_by, names_of as names_by, named_inodes as named_inodes_by};
 
 use super::directory::Entry;
 use rx_ranges::{NoMemory, Text};
@@ -25,8 +25,7 @@ fn path_of(alloc: Global, name: &[u8]) -> Result<String, NoMemory>
 /// The paths of the entries that name an inode, as they stand.
 fn paths_of(alloc: Global, entries: &[Entry<'_>], number: u32) -> Result<Vec<String>, NoMemory>
     requires { list_all is_first_entry entries.now ≡ true }
-    ensures { IfOk result (λ paths. map string_bytes paths.items
-        ≡ map (λ entry. joined_path root_path entry.name) (filter (λ entry. entry.inode == number) entries.now)) }
+    ensures { IfOk result (λ paths. map string_bytes paths.items ≡ paths_by entries.now number) }
 {
     let mut paths = Vec::new(alloc);
     for entry in entries {

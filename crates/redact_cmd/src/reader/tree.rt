@@ -4,7 +4,7 @@ ghost use Rattle.std.specs.List.{All, list_all};
 ghost use Rattle.range_defs.specs.Places.{covers, longest_ranges};
 ghost use Rattle.rx_tree.specs.Within.{AreRangesWithin};
 ghost use Rattle.volume_defs.specs.FirstForm.{is_first_superblock, is_first_inode, is_first_root, is_first_entry, root_path, root_file, named_file, named_inodes};
-ghost use Rattle.volume_defs.specs.FirstInvariants.{AreFilesOf};
+ghost use Rattle.volume_defs.specs.FoundFiles.{AreFilesOf};
 ghost use Rattle.volume_defs.specs.FirstReader.{inode_range};
 ghost use Rattle.volume_defs.specs.FirstTree.{whole_volume, tree_of};
 ghost use Rattle.volume_defs.specs.FirstRanges.{first_ranges};

@@ -23,4 +23,4 @@ returns-clause-told g c =
 
 pub returns-clause-file : goal.returns-clause-file
 returns-clause-file g c =
-    file_is c.args.size c.args.superblock.now c.args.entries.now c.args.number c.in_ok-inode.inode c.in_ok-named_entry.field-0 (sym c.may_be_file.ensures ∙ c.if-not-may_be_file.false) c.in_ok-named_entry.ensures
+    file_is c.args.size c.args.superblock.now c.args.entries.now c.args.number c.in_ok-inode.inode c.in_ok-named_entry.field-0 c.in_ok-inode.ensures.within (sym c.may_be_file.ensures ∙ c.if-not-may_be_file.false) c.in_ok-named_entry.ensures

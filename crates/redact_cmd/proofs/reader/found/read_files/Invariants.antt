@@ -2,7 +2,7 @@ use Rattle.std.proofs.Common.{◌≡◌, true, IfSome, take}
 use Rattle.std.specs.List.{All}
 use Rattle.disk_defs.specs.Disk.{told_image}
 use Rattle.volume_defs.specs.FirstForm.{is_first_inode}
-use Rattle.volume_defs.specs.FirstInvariants.{AreFilesOf}
+use Rattle.volume_defs.specs.FoundFiles.{AreFilesOf}
 use Rattle.redact_cmd.proofs.Files.{AreRead}
 use Rattle.redact_cmd.proofs.reader.found.read_files.Given as goal
 
