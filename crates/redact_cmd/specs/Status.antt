@@ -20,9 +20,10 @@ code_of NotBuilt = 15
 unfoldable pub program_line : List ℕ → List ℕ
 program_line text = codes "dfredact: " ++ text ++ codes "\n"
 
--- the text that says a refusal of a plan
-unfoldable pub refusal_text : PlanRefusal → List ℕ
-refusal_text (MeetsGuard place rule) = codes "rule " ++ decimal rule ++ codes " would fill byte " ++ decimal place ++ codes " of the guard"
+-- the line that says a refusal of a plan
+unfoldable pub refusal_line : PlanRefusal → List ℕ
+refusal_line (MeetsGuard place rule) =
+    codes "dfredact: rule " ++ decimal rule ++ codes " would fill byte " ++ decimal place ++ codes " of the guard\n"
 
 -- the text that says a status with no operand
 unfoldable pub plain_text : Status → List ℕ
@@ -39,7 +40,7 @@ plain_text NotBuilt = codes "not built yet"
 unfoldable pub status_line : Status → List ℕ
 status_line Done = []
 status_line Usage = program_line (plain_text Usage)
-status_line (PlanRefused refusal) = program_line (refusal_text refusal)
+status_line (PlanRefused refusal) = refusal_line refusal
 status_line DeviceFault = program_line (plain_text DeviceFault)
 status_line SourceFault = program_line (plain_text SourceFault)
 status_line SinkFault = program_line (plain_text SinkFault)

@@ -1,9 +1,8 @@
 //! What a command answers.
-ghost use Rattle.std.specs.Prelude.{◌≡◌, ◌≤◌, ◌++◌, length, OnOk, OnErr};
-ghost use Rattle.arrayvec.specs.ArrayString.{array_string_len};
+ghost use Rattle.std.specs.Prelude.{◌≡◌, ◌≤◌, length, OnOk, OnErr};
 ghost use Rattle.disk_defs.specs.Count.{Rose};
 ghost use Rattle.disk_defs.specs.Stream.{taken_with, TookPrefixOf};
-ghost use Rattle.redact_cmd.specs.Status.{code_of, status_line, refusal_text, plain_text};
+ghost use Rattle.redact_cmd.specs.Status.{code_of, status_line, refusal_line, plain_text};
 ghost use Rattle.redact_cmd.specs.declared.status.Status.TheVariants.{NoMemory};
 
 use arrayvec::ArrayString;
@@ -88,19 +87,19 @@ const LINE: usize = 160;
 
 type Line = ArrayString<LINE>;
 
-/// The text that says a refusal of a plan.
-#[tactic(auto, unfolding(crate::specs::Status::refusal_text))]
-fn push_refusal(line: &mut Line, refusal: PlanRefusal)
-    requires { array_string_len line.old ≤ 10 }
-    ensures text { line.new.bytes ≡ line.old.bytes ++ refusal_text refusal }
-    ensures room { array_string_len line.new ≤ 125 }
+/// The line that says a refusal of a plan.
+#[tactic(auto, unfolding(crate::specs::Status::refusal_line))]
+fn line_of_refusal(refusal: PlanRefusal) -> Line
+    ensures { result.bytes ≡ refusal_line refusal }
 {
     let PlanRefusal::MeetsGuard(place, rule) = refusal;
-    line.push_str("rule ");
+    let mut line = Line::new();
+    line.push_str("dfredact: rule ");
     line.push_str(Buffer::new().format(rule));
     line.push_str(" would fill byte ");
     line.push_str(Buffer::new().format(place));
-    line.push_str(" of the guard");
+    line.push_str(" of the guard\n");
+    line
 }
 
 /// The text that says a status with no operand.
@@ -128,14 +127,13 @@ fn line_of(status: &Status) -> Line
     ensures { result.bytes ≡ status_line status.now }
 {
     let mut line = Line::new();
-    if let Status::Done = status {
-        return line;
+    match status {
+        Status::Done => return line,
+        Status::PlanRefused(refusal) => return line_of_refusal(*refusal),
+        _ => {}
     }
     line.push_str("dfredact: ");
-    match status {
-        Status::PlanRefused(refusal) => push_refusal(&mut line, *refusal),
-        _ => line.push_str(text_of(status)),
-    }
+    line.push_str(text_of(status));
     line.push_str("\n");
     line
 }

@@ -1,6 +1,6 @@
-use Rattle.std.proofs.Common.{◌≡◌, ◌∷◌, List, ℕ, sym, subst, ap, ◌∙◌}
+use Rattle.std.proofs.Common.{◌∷◌, List, ℕ, sym, subst, ap, ◌∙◌}
 use Rattle.rx_tree.specs.Within.{IsWithin}
-use Rattle.volume_defs.specs.FirstForm.{named_inodes, root_file}
+use Rattle.volume_defs.specs.FirstForm.{root_file}
 use Rattle.volume_defs.specs.FoundFiles.{AreFilesOf, first_files_within}
 use Rattle.volume_defs.specs.FirstTree.{tree_of}
 use Rattle.redact_cmd.proofs.Tree.{tree_is, tree_within}
