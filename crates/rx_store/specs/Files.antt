@@ -1,5 +1,6 @@
 -- A store over files: what contracts see of it.
 use Rattle.std.specs.Prelude.{◌≡◌, ℕ, Bool, true, false, None, IsTrue}
+use Rattle.disk_defs.specs.Count.{Faults}
 use Rattle.disk_defs.specs.Disk.{State, TellsItsSizes}
 use Rattle.disk_defs.specs.declared.Area.{Area}
 use Rattle.disk_defs.specs.declared.Area.TheVariants.{Image, Journal}
@@ -12,11 +13,11 @@ pub record AreaFile : Type 0 where
   pub is_absent : Bool
   pub has_failed : Bool
 
--- the files of both areas, and how many calls failed
+-- the files of both areas, and how many calls failed on each
 pub record StoreOfFiles : Type 0 where
   pub image : AreaFile
   pub journal : AreaFile
-  pub faults : ℕ
+  pub faults : Faults
 
 abbrev pub is_absent : Opened → Bool
 is_absent Absent = true

@@ -1,10 +1,11 @@
 //! The store over real files.
 ghost use Rattle.std.specs.Prelude.{◌≡◌, ◌≤◌, ◌+◌, length, IfOk, OnOk, OnErr, IsOk, IsErr, IsTrue};
 ghost use Rattle.disk_defs.specs.Disk.{size_of, ReadsFrom};
-ghost use Rattle.disk_defs.specs.Count.{Rose};
+ghost use Rattle.disk_defs.specs.Count.{IsCountedIn, no_faults};
 ghost use Rattle.rx_store.specs.Files.{IsMeasured, area_file, is_absent, has_failed, file_of, state_of_files};
 
-use crate::outside::{counted, read_once};
+use crate::fault_counts::FaultCounts;
+use crate::outside::read_once;
 use crate::store::Store;
 use disk_defs::{Area, Fault};
 use std::fs::File;
@@ -104,7 +105,7 @@ impl FileArea {
 pub struct FileStore {
     image: FileArea,
     journal: FileArea,
-    faults: u64,
+    faults: FaultCounts,
 }
 
 impl Model for FileStore {
@@ -124,12 +125,12 @@ impl FileStore {
     pub fn new(image: Opened, journal: Opened) -> FileStore
         ensures image { IsMeasured image result.image }
         ensures journal { IsMeasured journal result.journal }
-        ensures faults { result.faults ≡ 0 }
+        ensures faults { result.faults ≡ no_faults }
     {
         FileStore {
             image: FileArea::new(image),
             journal: FileArea::new(journal),
-            faults: 0,
+            faults: FaultCounts::new(),
         }
     }
 }
@@ -144,9 +145,7 @@ impl Store for FileStore {
     fn len(&mut self, area: Area) -> Result<u64, Fault>
         ensures size { IfOk result (λ size. size ≡ size_of area (state_of_files self.old)) }
         ensures same { state_of_files self.new ≡ state_of_files self.old }
-        ensures counts { self.old.faults ≤ self.new.faults }
-        ensures cause { OnErr result (Rose self.old.faults self.new.faults) }
-        ensures calm { OnOk result (self.new.faults ≡ self.old.faults) }
+        ensures counted { IsCountedIn area result self.old.faults self.new.faults }
 
         // It fails exactly where the file couldn't be opened or measured.
         ensures failed { IsTrue (file_of area self.old).has_failed → IsErr result }
@@ -157,16 +156,14 @@ impl Store for FileStore {
             Area::Image => self.image.len(),
             Area::Journal => self.journal.len(),
         };
-        counted(&mut self.faults, outcome)
+        self.faults.counted(area, outcome)
     }
 
     fn read_at(&mut self, area: Area, at: u64, buf: &mut [u8]) -> Result<(), Fault>
         requires { at + length buf.old ≤ size_of area (state_of_files self.old) }
         ensures bytes { OnOk result (ReadsFrom area at (state_of_files self.old) buf.new) }
         ensures same { state_of_files self.new ≡ state_of_files self.old }
-        ensures counts { self.old.faults ≤ self.new.faults }
-        ensures cause { OnErr result (Rose self.old.faults self.new.faults) }
-        ensures calm { OnOk result (self.new.faults ≡ self.old.faults) }
+        ensures counted { IsCountedIn area result self.old.faults self.new.faults }
 
         // It fails where the file couldn't be opened or measured, and of no file nothing can be read.
         ensures failed { IsTrue (file_of area self.old).has_failed → IsErr result }
@@ -177,7 +174,7 @@ impl Store for FileStore {
             Area::Image => self.image.read_at(at, buf),
             Area::Journal => self.journal.read_at(at, buf),
         };
-        counted(&mut self.faults, outcome)
+        self.faults.counted(area, outcome)
     }
 
     ghost tells_its_sizes = { tells_its_sizes_of_files };

@@ -1,6 +1,7 @@
 //! The outside: a store with an image and a journal, a source of text, and a sink for it.
 #![tactic(auto)]
 
+mod fault_counts;
 pub mod file_store;
 pub mod mem_sink;
 pub mod mem_source;

@@ -1,7 +1,7 @@
 //! A sink in memory, with room for so many bytes.
 ghost use Rattle.std.specs.Prelude.{OnOk, ◌≡◌, ◌+◌, ◌-◌, ◌<◌, ◌≤◌, ◌++◌, length, take, min, vec_len, vec_capacity, Some, IfOk, OnErr, IsErr};
 ghost use Rattle.disk_defs.specs.Stream.{taken_with};
-ghost use Rattle.disk_defs.specs.Count.{Rose, faults_after};
+ghost use Rattle.disk_defs.specs.Count.{IsCounted, faults_after};
 ghost use Rattle.disk_defs.specs.Memory.{sink_with_room};
 
 use crate::NoMemory;
@@ -72,9 +72,7 @@ impl Sink for MemSink {
         ensures taken { IfOk result
             (λ count. Some self.new.bytes ≡ taken_with (Some self.old.bytes) (take count bytes.now)) }
         ensures fault { OnErr result (self.new.bytes ≡ self.old.bytes) }
-        ensures counts { self.old.faults ≤ self.new.faults }
-        ensures cause { OnErr result (Rose self.old.faults self.new.faults) }
-        ensures calm { OnOk result (self.new.faults ≡ self.old.faults) }
+        ensures counted { IsCounted result self.old.faults self.new.faults }
 
         // It takes what fits, and fails exactly where a piece that isn't empty finds no room at all.
         ensures most { IfOk result

@@ -1,7 +1,7 @@
 //! A source in memory, of whose reads one may fail.
 ghost use Rattle.std.specs.Prelude.{OnOk, ◌≡◌, ◌<◌, ◌≤◌, [], Some, length, take, min, IfOk, OnErr, IsErr};
 ghost use Rattle.disk_defs.specs.Stream.{GivesFirst, rest_after};
-ghost use Rattle.disk_defs.specs.Count.{Rose, one_more, faults_after};
+ghost use Rattle.disk_defs.specs.Count.{IsCounted, one_more, faults_after};
 ghost use Rattle.disk_defs.specs.Memory.{source_of};
 
 use crate::source::Source;
@@ -24,7 +24,7 @@ impl Reads {
         ensures failing { self.new.failing ≡ self.old.failing }
         ensures made { self.new.made ≡ one_more self.old.made }
         ensures faults { self.new.faults ≡ faults_after result self.old.faults }
-        ensures counts { self.old.faults ≤ self.new.faults }
+        ensures counted { IsCounted result self.old.faults self.new.faults }
     {
         self.made = self.made.saturating_add(1);
         if self.failing == Some(self.made) {
@@ -99,9 +99,7 @@ impl Source for MemSource {
         ensures rest { IfOk result (λ count. Some self.new.rest ≡ rest_after (Some self.old.rest) count) }
         ensures end { result ≡ Ok 0 → 0 < length buf.new → self.old.rest ≡ [] }
         ensures fault { OnErr result (self.new.rest ≡ self.old.rest) }
-        ensures counts { self.old.faults ≤ self.new.faults }
-        ensures cause { OnErr result (Rose self.old.faults self.new.faults) }
-        ensures calm { OnOk result (self.new.faults ≡ self.old.faults) }
+        ensures counted { IsCounted result self.old.faults self.new.faults }
 
         // It gives as much as there is and fits, and fails exactly where its number was named.
         ensures most { IfOk result (λ count. count ≡ min (length buf.new) (length self.old.rest)) }

@@ -1,37 +1,38 @@
 //! A store in memory, whose calls fail where they are told to.
 ghost use Rattle.std.specs.Prelude.{◌≡◌, ◌+◌, ◌≤◌, length, vec_len, IfOk, OnOk, OnErr, IsErr, Contains};
 ghost use Rattle.disk_defs.specs.Disk.{size_of, ReadsFrom};
-ghost use Rattle.disk_defs.specs.Count.{Rose, one_more, faults_after};
+ghost use Rattle.disk_defs.specs.Count.{IsCountedIn, all_faults, one_more, faults_after_in};
 ghost use Rattle.disk_defs.specs.Memory.{store_holding, state_in_memory, after_call};
 ghost use Rattle.image_defs.specs.Bytes.{part};
 
 use crate::NoMemory;
+use crate::fault_counts::FaultCounts;
 use crate::store::Store;
 use disk_defs::{Area, Fault};
 use std::alloc::Global;
 use std::marker::Model;
 
-/// How many calls were made and failed, and the numbers of those that fail. Both counts stay at their last value.
+/// How many calls were made and failed, and the numbers of those that fail. The counts stay at their last value.
 #[derive(Drop)]
 struct Calls {
     made: u64,
     failing: Vec<u64>,
-    faults: u64,
+    faults: FaultCounts,
 }
 
 impl Calls {
-    /// Counts a call, and lets it fail where its number was named.
-    fn begin(&mut self) -> Result<(), Fault>
+    /// Counts a call on an area, and lets it fail where its number was named.
+    fn begin(&mut self, area: Area) -> Result<(), Fault>
         ensures fails { Contains self.old.failing.items (one_more self.old.made) → IsErr result }
         ensures only_named { OnErr result (Contains self.old.failing.items (one_more self.old.made)) }
         ensures failing { self.new.failing.items ≡ self.old.failing.items }
         ensures made { self.new.made ≡ one_more self.old.made }
-        ensures faults { self.new.faults ≡ faults_after result self.old.faults }
-        ensures counts { self.old.faults ≤ self.new.faults }
+        ensures faults { self.new.faults ≡ faults_after_in area result self.old.faults }
+        ensures counted { IsCountedIn area result self.old.faults self.new.faults }
     {
         self.made = self.made.saturating_add(1);
         if self.failing.contains(&self.made) {
-            self.faults = self.faults.saturating_add(1);
+            self.faults.add(area);
             return Err(Fault);
         }
         Ok(())
@@ -81,7 +82,7 @@ impl MemStore {
             calls: Calls {
                 made: 0,
                 failing: Vec::new(alloc),
-                faults: 0,
+                faults: FaultCounts::new(),
             },
         })
     }
@@ -102,9 +103,9 @@ impl MemStore {
 
     /// How many calls have failed.
     pub fn faults(&self) -> u64
-        ensures { result ≡ self.now.faults }
+        ensures { result ≡ all_faults self.now.faults }
     {
-        self.calls.faults
+        self.calls.faults.all()
     }
 }
 
@@ -128,16 +129,14 @@ impl Store for MemStore {
     fn len(&mut self, area: Area) -> Result<u64, Fault>
         ensures size { IfOk result (λ size. size ≡ size_of area (state_in_memory self.old)) }
         ensures same { state_in_memory self.new ≡ state_in_memory self.old }
-        ensures counts { self.old.faults ≤ self.new.faults }
-        ensures cause { OnErr result (Rose self.old.faults self.new.faults) }
-        ensures calm { OnOk result (self.new.faults ≡ self.old.faults) }
+        ensures counted { IsCountedIn area result self.old.faults self.new.faults }
 
         // A call fails exactly where its number was named.
         ensures fails { Contains self.old.failing (one_more self.old.calls) → IsErr result }
         ensures only_named { OnErr result (Contains self.old.failing (one_more self.old.calls)) }
-        ensures turn { self.new ≡ after_call result self.old }
+        ensures turn { self.new ≡ after_call area result self.old }
     {
-        self.calls.begin()?;
+        self.calls.begin(area)?;
         let len = match area {
             Area::Image => self.image.len(),
             Area::Journal => self.journal.len(),
@@ -149,16 +148,14 @@ impl Store for MemStore {
         requires { at + length buf.old ≤ size_of area (state_in_memory self.old) }
         ensures bytes { OnOk result (ReadsFrom area at (state_in_memory self.old) buf.new) }
         ensures same { state_in_memory self.new ≡ state_in_memory self.old }
-        ensures counts { self.old.faults ≤ self.new.faults }
-        ensures cause { OnErr result (Rose self.old.faults self.new.faults) }
-        ensures calm { OnOk result (self.new.faults ≡ self.old.faults) }
+        ensures counted { IsCountedIn area result self.old.faults self.new.faults }
 
         // A call fails exactly where its number was named.
         ensures fails { Contains self.old.failing (one_more self.old.calls) → IsErr result }
         ensures only_named { OnErr result (Contains self.old.failing (one_more self.old.calls)) }
-        ensures turn { self.new ≡ after_call result self.old }
+        ensures turn { self.new ≡ after_call area result self.old }
     {
-        self.calls.begin()?;
+        self.calls.begin(area)?;
         match area {
             Area::Image => copy_from(&self.image, at, buf),
             Area::Journal => copy_from(&self.journal, at, buf),

@@ -1,6 +1,6 @@
 //! Calls on what std reads and writes, as the edges make them.
 ghost use Rattle.std.specs.Prelude.{◌≡◌, ◌<◌, ◌≤◌, length, IfOk};
-ghost use Rattle.disk_defs.specs.Count.{faults_after};
+ghost use Rattle.disk_defs.specs.Count.{IsCounted, faults_after};
 
 use disk_defs::Fault;
 use std::io::{ErrorKind, Read, Write};
@@ -8,8 +8,8 @@ use std::io::{ErrorKind, Read, Write};
 /// Counts a fault where there is one. The count stays at its last value.
 pub(crate) fn counted<T>(faults: &mut u64, outcome: Result<T, Fault>) -> Result<T, Fault>
     ensures same { result ≡ outcome }
-    ensures faults { faults.new ≡ faults_after outcome faults.old }
-    ensures counts { faults.old ≤ faults.new }
+    ensures faults { faults.new ≡ faults_after result faults.old }
+    ensures counted { IsCounted result faults.old faults.new }
 {
     if outcome.is_err() {
         *faults = faults.saturating_add(1);

@@ -1,7 +1,7 @@
 //! The sink for a text.
 ghost use Rattle.std.specs.Prelude.{◌≡◌, ◌<◌, ◌≤◌, ℕ, List, Option, length, take, IfOk, OnOk, OnErr};
 ghost use Rattle.disk_defs.specs.Stream.{taken_with, TookPrefixOf};
-ghost use Rattle.disk_defs.specs.Count.{Rose};
+ghost use Rattle.disk_defs.specs.Count.{IsCounted};
 
 use disk_defs::Fault;
 
@@ -19,18 +19,14 @@ pub trait Sink {
         ensures progress { IfOk result (λ count. 0 < length bytes.now → 0 < count) }
         ensures taken { IfOk result (λ count. taken self.new ≡ taken_with (taken self.old) (take count bytes.now)) }
         ensures fault { OnErr result (taken self.new ≡ taken self.old) }
-        ensures counts { faults self.old ≤ faults self.new }
-        ensures cause { OnErr result (Rose (faults self.old) (faults self.new)) }
-        ensures calm { OnOk result (faults self.new ≡ faults self.old) };
+        ensures counted { IsCounted result (faults self.old) (faults self.new) };
 }
 
 /// Writes a whole text, in as many writes as the sink wants. After a fault the sink took some first bytes of it.
 pub fn write_all<K: Sink>(sink: &mut K, bytes: &[u8]) -> Result<(), Fault>
     ensures taken { OnOk result (K.taken sink.new ≡ taken_with (K.taken sink.old) bytes.now) }
     ensures prefix { OnErr result (TookPrefixOf (K.taken sink.old) (K.taken sink.new) bytes.now) }
-    ensures counts { K.faults sink.old ≤ K.faults sink.new }
-    ensures cause { OnErr result (Rose (K.faults sink.old) (K.faults sink.new)) }
-    ensures calm { OnOk result (K.faults sink.new ≡ K.faults sink.old) }
+    ensures counted { IsCounted result (K.faults sink.old) (K.faults sink.new) }
 {
     let mut done = 0;
     while done < bytes.len() {

@@ -1,7 +1,7 @@
 //! The source of a text.
 ghost use Rattle.std.specs.Prelude.{◌≡◌, ◌<◌, ◌≤◌, ℕ, [], List, Option, length, IfOk, IfSome, OnOk, OnErr};
 ghost use Rattle.disk_defs.specs.Stream.{GivesFirst, rest_after};
-ghost use Rattle.disk_defs.specs.Count.{Rose};
+ghost use Rattle.disk_defs.specs.Count.{IsCounted};
 
 use disk_defs::Fault;
 
@@ -21,7 +21,5 @@ pub trait Source {
         ensures rest { IfOk result (λ count. rest self.new ≡ rest_after (rest self.old) count) }
         ensures end { result ≡ Ok 0 → 0 < length buf.new → IfSome (rest self.old) (λ rest. rest ≡ []) }
         ensures fault { OnErr result (rest self.new ≡ rest self.old) }
-        ensures counts { faults self.old ≤ faults self.new }
-        ensures cause { OnErr result (Rose (faults self.old) (faults self.new)) }
-        ensures calm { OnOk result (faults self.new ≡ faults self.old) };
+        ensures counted { IsCounted result (faults self.old) (faults self.new) };
 }

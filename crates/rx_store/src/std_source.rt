@@ -1,6 +1,6 @@
 //! A source over a reader of std.
 ghost use Rattle.std.specs.Prelude.{OnOk, ◌≡◌, ◌≤◌, length, IfOk, OnErr, IsErr, IsTrue, is_none};
-ghost use Rattle.disk_defs.specs.Count.{Rose};
+ghost use Rattle.disk_defs.specs.Count.{IsCounted};
 
 use crate::outside::{counted, read_once};
 use crate::source::Source;
@@ -43,9 +43,7 @@ impl<R: Read> Source for StdSource<R> {
 
     fn read(&mut self, buf: &mut [u8]) -> Result<usize, Fault>
         ensures within { IfOk result (λ count. count ≤ length buf.new) }
-        ensures counts { self.old.faults ≤ self.new.faults }
-        ensures cause { OnErr result (Rose self.old.faults self.new.faults) }
-        ensures calm { OnOk result (self.new.faults ≡ self.old.faults) }
+        ensures counted { IsCounted result self.old.faults self.new.faults }
         ensures missing { IsTrue self.old.is_missing → IsErr result }
         ensures reader { self.new.is_missing ≡ self.old.is_missing }
     {
