@@ -148,4 +148,4 @@ pub list-looked_at : {E X : Type 0} (image : List ℕ) (ask : Ask E X) (ranges :
 unfolding looked_at
 list-looked_at image ask ranges kept same looks =
     same_as_longest_ranges (covers (visits image ask)) (length image) ranges kept same
-    (ends_where_covered ranges (length image) kept (λ byte past. same byte ∙ covers-past (length image) byte (visits image ask) looks past))
+    (ends_where_covered ranges (length image) kept (λ byte past. same byte ∙ covers-past (length image) byte (visits image ask) looks.all past))

@@ -5,3 +5,6 @@ pub mod Agreement
 pub mod Numbers
 pub mod Looks
 pub mod Guard
+pub mod Through
+pub mod Via
+pub mod ViaLaws

@@ -3,14 +3,13 @@
 use Rattle.std.specs.Prelude.{◌≡◌, ℕ, ◌≤◌, true, List, ◌∷◌, length}
 use Rattle.std.specs.List.{All, list_all}
 use Rattle.std.proofs.Common.{arith, sym, subst}
-use Rattle.std.proofs.lemmas.List.Elements.{All-nil}
 use Rattle.range_defs.specs.declared.Range.{Range}
 use Rattle.range_defs.specs.Places.{covers, IsRangeList}
 use Rattle.range_defs.specs.RangeLaws.{EndsBy}
 use Rattle.image_defs.specs.Bytes.{part}
 use Rattle.image_defs.specs.Ask.{Done, visits, each, check, given, ◌>>=◌}
 use Rattle.image_defs.specs.Guard.{looked_at, list-looked_at}
-use Rattle.image_defs.specs.Looks.{LooksAt, looks_bind, looks_check, looks_look, looks_given, looks_each}
+use Rattle.image_defs.specs.Looks.{LooksAt, looks_done, looks_bind, looks_check, looks_look, looks_given, looks_each}
 use Rattle.ufs_defs.specs.Superblock.{superblock_of}
 use Rattle.ufs_defs.specs.Inode.{inode_place, inode_of}
 use Rattle.ufs_defs.specs.Directory.{Entry, entries_of}
@@ -30,13 +29,13 @@ inode_looks : (image : List ℕ) (size : ℕ) (superblock : Superblock) (number 
 unfolding first_inode
 inode_looks image size superblock number =
     looks_check (EndsBy size) image (is_first_inode size superblock number) NotFirstForm _
-    (λ good. looks_look {E = FirstFault} (EndsBy size) image (inode_place superblock number) 256 (λ bytes. Done (inode_of bytes)) (first_inode_within size superblock number good) (All-nil (EndsBy size)))
+    (λ good. looks_look {E = FirstFault} (EndsBy size) image (inode_place superblock number) 256 (λ bytes. Done (inode_of bytes)) (first_inode_within size superblock number good) (looks_done (EndsBy size) image _))
 
 root_looks : (image : List ℕ) (size : ℕ) (superblock : Superblock) → LooksAt (EndsBy size) image (first_root size superblock)
 unfolding first_root
 root_looks image size superblock =
     looks_bind (EndsBy size) image (first_inode size superblock 2) _ (inode_looks image size superblock 2)
-    (λ root is. looks_check (EndsBy size) image (is_first_root size superblock root) NotFirstForm (λ x. Done root) (λ good. All-nil (EndsBy size)))
+    (λ root is. looks_check (EndsBy size) image (is_first_root size superblock root) NotFirstForm (λ x. Done root) (λ good. looks_done (EndsBy size) image _))
 
 entries_look : (image : List ℕ) (size : ℕ) (superblock : Superblock) (root : Inode) → is_first_root size superblock root ≡ true → LooksAt (EndsBy size) image (first_entries superblock root)
 unfolding first_entries
@@ -48,7 +47,7 @@ file_looks : (image : List ℕ) (size : ℕ) (superblock : Superblock) (entries 
 unfolding first_file
 file_looks image size superblock entries number =
     looks_bind (EndsBy size) image (first_inode size superblock number) _ (inode_looks image size superblock number)
-    (λ inode is. looks_check (EndsBy size) image (is_first_file size superblock inode) NotFirstForm (λ x. Done (named_file superblock entries number inode)) (λ fits. All-nil (EndsBy size)))
+    (λ inode is. looks_check (EndsBy size) image (is_first_file size superblock inode) NotFirstForm (λ x. Done (named_file superblock entries number inode)) (λ fits. looks_done (EndsBy size) image _))
 
 below_looks : (image : List ℕ) (size : ℕ) (superblock : Superblock) → LooksAt (EndsBy size) image (files_below size superblock)
 unfolding files_below
@@ -58,18 +57,18 @@ below_looks image size superblock =
     (λ entries listing. looks_check (EndsBy size) image (list_all is_first_entry entries) NotFirstForm _
     (λ named. looks_bind (EndsBy size) image (each (first_file size superblock entries) (named_inodes entries)) (λ files. Done (root_file superblock root ∷ files))
     (looks_each (EndsBy size) image (first_file size superblock entries) (named_inodes entries) (λ number. file_looks image size superblock entries number))
-    (λ files are. All-nil (EndsBy size)))))
+    (λ files are. looks_done (EndsBy size) image _))))
 
 kind_looks : (image : List ℕ) (size : ℕ) → 66912 ≤ size → LooksAt (EndsBy size) image (kind_of {E = FirstFault})
 kind_looks image size long =
     let P : List Range → Type 0 = λ ranges. All (EndsBy size) ranges in
-    subst P (sym (visits_kind FirstFault image)) (probes_within size long)
+    record { all = subst P (sym (visits_kind FirstFault image)) (probes_within size long) }
 
 superblock_looks : (image : List ℕ) (size : ℕ) → 66912 ≤ size → LooksAt (EndsBy size) image first_superblock
 unfolding first_superblock
 superblock_looks image size long =
     looks_look {E = FirstFault} (EndsBy size) image 65536 1376 (λ bytes. check (is_first_superblock (superblock_of bytes)) NotFirstForm >>= (λ x. Done (superblock_of bytes))) (omega (arith, long))
-    (looks_check (EndsBy size) image (is_first_superblock (superblock_of (part image 65536 1376))) NotFirstForm (λ x. Done (superblock_of (part image 65536 1376))) (λ good. All-nil (EndsBy size)))
+    (looks_check (EndsBy size) image (is_first_superblock (superblock_of (part image 65536 1376))) NotFirstForm (λ x. Done (superblock_of (part image 65536 1376))) (λ good. looks_done (EndsBy size) image _))
 
 -- the definition looks only inside the image
 pub first_files_look_inside : (image : List ℕ) (size : ℕ) → LooksAt (EndsBy size) image (first_files size)

@@ -1,5 +1,5 @@
 use Rattle.image_defs.specs.Agreement.{footprint_law}
-use Rattle.image_defs.proofs.footprint.Goals as goal
+use Rattle.image_defs.proofs.laws.footprint.Goals as goal
 
 pub returns : goal.returns
 returns g c = footprint_law g.row.E.Denot g.row.X.Denot

@@ -1,0 +1,5 @@
+use Rattle.image_defs.specs.ViaLaws.{set_law}
+use Rattle.image_defs.proofs.laws.footprint_of_a_set.Goals as goal
+
+pub returns : goal.returns
+returns g c = set_law g.row.E.Denot g.row.X.Denot
