@@ -1,6 +1,7 @@
 -- Sets of places. A set of places is told by a list of ranges, and one list is its canonical one.
 use Rattle.std.specs.Prelude.{◌≡◌, ℕ, zero, suc, ◌+◌, ◌<◌, ◌≤◌, Bool, true, false, ◌&&◌, ◌||◌, if◌then◌else◌, ◌==◌, nat_le, nat_lt, Option, Some, None, List, [], ◌∷◌}
 use Rattle.range_defs.specs.declared.Range.{Range}
+use Rattle.range_defs.specs.declared.TheConstants.{REACH}
 
 -- whether a byte lies in a range
 abbrev pub in_range : Range → ℕ → Bool
@@ -21,9 +22,9 @@ abbrev pub IsRangeList : List Range → Type 0
 IsRangeList [] = Unit {0}
 IsRangeList (range ∷ ranges) = (0 < range.len) × BeginsBehind (range.at + range.len) ranges × IsRangeList ranges
 
--- a range ends within what 63 bits count
+-- a range ends in reach
 abbrev pub EndsInReach : Range → Type 0
-EndsInReach range = range.at + range.len ≤ 9223372036854775808
+EndsInReach range = range.at + range.len ≤ REACH
 
 -- a byte is put in front of the ranges of the bytes behind it: it joins the first of them where that begins
 -- right behind it

@@ -1,6 +1,12 @@
 //! Places of an image: ranges of bytes, and claims of rules on them.
 #![tactic(auto)]
 
+/// The bytes of the longest image: 2^46.
+pub const LONGEST_IMAGE: u64 = 70_368_744_177_664;
+
+/// Where a range ends at most, so that sums of its bytes fit 64 bits: 2^63.
+pub const REACH: u64 = 9_223_372_036_854_775_808;
+
 /// The bytes from `at` on, `len` of them. Both are in bytes, and `at` counts from the image's first byte.
 #[derive(Clone, Copy, Debug, PartialEq, Eq)]
 pub struct Range {
