@@ -1,13 +1,35 @@
--- Laws on claims: the canonical list of claims is the one list of the longest claims, and so the only one.
-use Rattle.std.proofs.Common.{◌≡◌, ℕ, zero, suc, ◌+◌, ◌-◌, ◌<◌, ◌≤◌, Bool, true, false, cond, leb, Option, Some, None, List, [], ◌∷◌, refl, sym, ◌∙◌, ap, subst, ⊎_elim, arith}
+-- Laws on claims: the longest claims are a canonical list with the paints of their function, and there is one canonical
+-- list for each painting.
+use Rattle.std.proofs.Common.{◌≡◌, ◌≢◌, ℕ, zero, suc, ◌+◌, ◌-◌, ◌<◌, ◌≤◌, Bool, true, false, ◌&&◌, ◌||◌, ◌==◌, cond, Option, Some, None, is_some, nat_le, List, [], ◌∷◌, refl, sym, ◌∙◌, ap, subst, ⊎_elim, arith}
 use Rattle.std.specs.List.{All}
 use Rattle.std.proofs.lemmas.List.Elements.{All-head, All-tail, All-cons, All-nil}
-use Rattle.std.proofs.lemmas.Bool.{cases_lt, cases_eq, cases_Bool, cond-true, cond-false}
+use Rattle.std.proofs.lemmas.Bool.{cases_lt, cases_eq, cond_both, cond-true}
 use Rattle.std.proofs.lemmas.Bool.Decides.{nat_tests}
+use Rattle.range_defs.specs.declared.Range.{Range}
 use Rattle.range_defs.specs.declared.Claim.{Claim}
-use Rattle.range_defs.specs.Places.{in_range}
-use Rattle.range_defs.specs.RangeLaws.{in_range-before, in_range-inside, in_range-behind}
-use Rattle.range_defs.specs.Claims.{paint_of, lesser_paint, painted, BeginsApart, IsFillMap, in_front, longest_claims}
+use Rattle.range_defs.specs.Places.{in_range, covers}
+use Rattle.range_defs.specs.Claims.{paint_of, lesser_paint, painted, one_byte, BeginsApart, IsFillMap, NeighboursAgree, ranges_of, in_front, longest_claims}
+
+pub in_range-before : (range : Range) (byte : ℕ) → byte < range.at → in_range range byte ≡ false
+in_range-before range byte before = grind (arith, nat_tests)
+
+pub in_range-inside : (range : Range) (byte : ℕ) → range.at ≤ byte → byte < range.at + range.len → in_range range byte ≡ true
+in_range-inside range byte begun inside = grind (arith, nat_tests)
+
+pub in_range-behind : (range : Range) (byte : ℕ) → range.at + range.len ≤ byte → in_range range byte ≡ false
+in_range-behind range byte behind = grind (arith, nat_tests)
+
+pub paint_of-out : (claim : Claim) (byte : ℕ) → in_range claim.range byte ≡ false → paint_of claim byte ≡ None
+paint_of-out claim byte out = rw out refl
+
+pub paint_before : (claim : Claim) (byte : ℕ) → byte < claim.range.at → paint_of claim byte ≡ None
+paint_before claim byte before = paint_of-out claim byte (in_range-before claim.range byte before)
+
+pub paint_inside : (claim : Claim) (byte : ℕ) → claim.range.at ≤ byte → byte < claim.range.at + claim.range.len → paint_of claim byte ≡ Some (claim.rule, claim.fill)
+paint_inside claim byte begun inside = rw (in_range-inside claim.range byte begun inside) refl
+
+pub paint_behind : (claim : Claim) (byte : ℕ) → claim.range.at + claim.range.len ≤ byte → paint_of claim byte ≡ None
+paint_behind claim byte behind = paint_of-out claim byte (in_range-behind claim.range byte behind)
 
 -- a claim ends at most at this byte
 abbrev pub EndsBy : ℕ → Claim → Type 0
@@ -18,19 +40,9 @@ abbrev pub BeginsFrom : ℕ → List Claim → Type 0
 BeginsFrom byte [] = Unit {0}
 BeginsFrom byte (claim ∷ claims) = byte ≤ claim.range.at
 
-pub paint_of-out : (claim : Claim) (byte : ℕ) → in_range claim.range byte ≡ false → paint_of claim byte ≡ None
-paint_of-out claim byte out = rw out refl
-
-pub paint_of-in : (claim : Claim) (byte : ℕ) → in_range claim.range byte ≡ true → paint_of claim byte ≡ Some (claim.rule, claim.fill)
-paint_of-in claim byte inside = rw inside refl
-
 begins_from : (byte end rule : ℕ) (claims : List Claim) → byte ≤ end → BeginsApart end rule claims → BeginsFrom byte claims
 begins_from byte end rule [] less apart = tt
 begins_from byte end rule (claim ∷ claims) less apart = omega (arith, apart.0)
-
-begins_anywhere : (claims : List Claim) → BeginsFrom 0 claims
-begins_anywhere [] = tt
-begins_anywhere (claim ∷ claims) = omega arith
 
 -- no claim of a canonical list has a byte in front of it
 pub painted-before : (claims : List Claim) (byte : ℕ) → IsFillMap claims → BeginsFrom (suc byte) claims → painted claims byte ≡ None
@@ -38,141 +50,36 @@ painted-before [] byte kept before = refl
 painted-before (claim ∷ claims) byte kept before =
     let rest : painted claims byte ≡ None =
     painted-before claims byte kept.2 (begins_from (suc byte) (claim.range.at + claim.range.len) claim.rule claims (omega (arith, before)) kept.1) in
-    rw (paint_of-out claim byte (in_range-before claim.range byte before)) rest
+    rw (paint_before claim byte before) rest
 
 pub painted-after : (claim : Claim) (claims : List Claim) (byte : ℕ) → claim.range.at + claim.range.len ≤ byte → painted (claim ∷ claims) byte ≡ painted claims byte
-painted-after claim claims byte behind = rw (paint_of-out claim byte (in_range-behind claim.range byte behind)) refl
+painted-after claim claims byte behind = rw (paint_behind claim byte behind) refl
+
+-- nor has a claim behind the first one a byte in front of that one's end
+tail-before : (claim : Claim) (claims : List Claim) (byte : ℕ) → IsFillMap (claim ∷ claims) → byte < claim.range.at + claim.range.len → painted claims byte ≡ None
+tail-before claim claims byte kept before =
+    painted-before claims byte kept.2 (begins_from (suc byte) (claim.range.at + claim.range.len) claim.rule claims (omega arith) kept.1)
 
 pub painted-inside : (claim : Claim) (claims : List Claim) (byte : ℕ) → IsFillMap (claim ∷ claims) → claim.range.at ≤ byte → byte < claim.range.at + claim.range.len
     → painted (claim ∷ claims) byte ≡ Some (claim.rule, claim.fill)
 painted-inside claim claims byte kept begun inside =
-    let rest : painted claims byte ≡ None =
-    painted-before claims byte kept.2 (begins_from (suc byte) (claim.range.at + claim.range.len) claim.rule claims (omega (arith, inside)) kept.1) in
-    rw (paint_of-in claim byte (in_range-inside claim.range byte begun inside)) (rw rest refl)
+    rw (paint_inside claim byte begun inside) (rw (tail-before claim claims byte kept inside) refl)
 
--- the claim with its first byte left out
-shorter : Claim → Claim
-shorter claim = record { range = record { at = suc claim.range.at; len = claim.range.len - 1 }; rule = claim.rule; fill = claim.fill }
+painted-first : (claim : Claim) (claims : List Claim) → IsFillMap (claim ∷ claims) → painted (claim ∷ claims) claim.range.at ≡ Some (claim.rule, claim.fill)
+painted-first claim claims kept = painted-inside claim claims claim.range.at kept (omega arith) (omega (arith, kept.0))
 
-painted-shorter : (claim : Claim) (claims : List Claim) (byte : ℕ) → suc claim.range.at ≤ byte → 0 < claim.range.len
-    → painted (shorter claim ∷ claims) byte ≡ painted (claim ∷ claims) byte
-unfolding shorter
-painted-shorter claim claims byte behind some =
-    let same : in_range (shorter claim).range byte ≡ in_range claim.range byte = grind (arith, nat_tests) in
-    ap (λ (b : Bool). lesser_paint (cond b (Some (claim.rule, claim.fill)) None) (painted claims byte)) same
-
-in_front-joins : (claim : Claim) (claims : List Claim) → 0 < claim.range.len
-    → claim ∷ claims ≡ in_front claim.range.at (Some (claim.rule, claim.fill)) (shorter claim ∷ claims)
-unfolding shorter
-in_front-joins claim claims some =
-    let same : suc (claim.range.len - 1) ≡ claim.range.len = omega arith in
-    grind (arith, nat_tests)
-
-in_front-apart : (claim : Claim) (claims : List Claim) → claim.range.len ≡ 1 → BeginsApart (claim.range.at + claim.range.len) claim.rule claims
-    → claim ∷ claims ≡ in_front claim.range.at (Some (claim.rule, claim.fill)) claims
-in_front-apart claim [] one apart = grind (arith, nat_tests)
-in_front-apart claim (next ∷ claims) one apart = grind (arith, nat_tests)
-
-longest-out : (paint : ℕ → Option (ℕ × ℕ)) (from count : ℕ) (claims : List Claim) → paint from ≡ None
-    → claims ≡ longest_claims paint (suc from) count → claims ≡ longest_claims paint from (suc count)
-unfolding longest_claims
-longest-out paint from count claims out rest = rw out rest
-
-longest-in : (paint : ℕ → Option (ℕ × ℕ)) (from count : ℕ) (painted_with : ℕ × ℕ) (claims rest : List Claim) → paint from ≡ Some painted_with
-    → rest ≡ longest_claims paint (suc from) count → claims ≡ in_front from (Some painted_with) rest → claims ≡ longest_claims paint from (suc count)
-unfolding longest_claims
-longest-in paint from count painted_with claims rest taken same joined = rw taken (joined ∙ ap (in_front from (Some painted_with)) same)
-
-shorter-kept : (claim : Claim) (claims : List Claim) → 1 < claim.range.len → IsFillMap (claim ∷ claims) → IsFillMap (shorter claim ∷ claims)
-unfolding shorter
-shorter-kept claim claims long kept =
-    let same : suc claim.range.at + (claim.range.len - 1) ≡ claim.range.at + claim.range.len = omega arith in
-    (omega arith, subst (λ (end : ℕ). BeginsApart end claim.rule claims) (sym same) kept.1, kept.2)
-
-shorter-ends : (end : ℕ) (claim : Claim) → 0 < claim.range.len → EndsBy end claim → EndsBy end (shorter claim)
-unfolding shorter
-shorter-ends end claim some ends = omega arith
-
-shorter-begins : (from : ℕ) (claim : Claim) → claim.range.at ≡ from → suc from ≤ (shorter claim).range.at
-unfolding shorter
-shorter-begins from claim begun = omega arith
-
--- whether two paints are the same from one byte to another
-abbrev AgreeFrom : ℕ → ℕ → (ℕ → Option (ℕ × ℕ)) → (ℕ → Option (ℕ × ℕ)) → Type 0
-AgreeFrom from end a b = (byte : ℕ) → from ≤ byte → byte < end → a byte ≡ b byte
-
--- each canonical list that lies between two bytes, and paints the bytes there as the function says, is the list of
--- the longest claims
-abbrev AreLongest : (ℕ → Option (ℕ × ℕ)) → ℕ → ℕ → ℕ → Type 0
-AreLongest paint from count end = (claims : List Claim) → IsFillMap claims → BeginsFrom from claims → All (EndsBy end) claims
-    → AgreeFrom from end (painted claims) paint → claims ≡ longest_claims paint from count
-
--- where the first claim is the first byte alone, the others are the longest behind it
-longest-one : (paint : ℕ → Option (ℕ × ℕ)) (from count end : ℕ) (claim : Claim) (claims : List Claim) → claim.range.len ≡ 1
-    → claim.range.at ≡ from → AreLongest paint (suc from) count end → IsFillMap (claim ∷ claims) → All (EndsBy end) (claim ∷ claims)
-    → AgreeFrom from end (painted (claim ∷ claims)) paint → claims ≡ longest_claims paint (suc from) count
-longest-one paint from count end claim claims one begun later kept within agree =
-    later claims kept.2 (begins_from (suc from) (claim.range.at + claim.range.len) claim.rule claims (omega arith) kept.1)
-    (All-tail (EndsBy end) claim claims within)
-    (λ byte low high. sym (painted-after claim claims byte (omega arith)) ∙ agree byte (omega arith) high)
-
--- where the first claim is longer, its other bytes and the other claims are the longest behind the first byte
-longest-long : (paint : ℕ → Option (ℕ × ℕ)) (from count end : ℕ) (claim : Claim) (claims : List Claim) → 1 < claim.range.len
-    → claim.range.at ≡ from → AreLongest paint (suc from) count end → IsFillMap (claim ∷ claims) → All (EndsBy end) (claim ∷ claims)
-    → AgreeFrom from end (painted (claim ∷ claims)) paint → shorter claim ∷ claims ≡ longest_claims paint (suc from) count
-longest-long paint from count end claim claims long begun later kept within agree =
-    later (shorter claim ∷ claims) (shorter-kept claim claims long kept) (shorter-begins from claim begun)
-    (All-cons (EndsBy end) (shorter claim) claims (shorter-ends end claim kept.0 (All-head (EndsBy end) claim claims within)) (All-tail (EndsBy end) claim claims within))
-    (λ byte low high. painted-shorter claim claims byte (omega arith) kept.0 ∙ agree byte (omega arith) high)
-
-longest-begun : (paint : ℕ → Option (ℕ × ℕ)) (from count end : ℕ) (claim : Claim) (claims : List Claim) → claim.range.at ≡ from
-    → AreLongest paint (suc from) count end → IsFillMap (claim ∷ claims) → All (EndsBy end) (claim ∷ claims)
-    → AgreeFrom from end (painted (claim ∷ claims)) paint → claim ∷ claims ≡ longest_claims paint from (suc count)
-longest-begun paint from count end claim claims begun later kept within agree =
-    let fits : claim.range.at + claim.range.len ≤ end = All-head (EndsBy end) claim claims within in
-    let with : ℕ × ℕ = (claim.rule, claim.fill) in
-    let taken : paint from ≡ Some with =
-    sym (agree from (omega arith) (omega (arith, kept.0))) ∙ painted-inside claim claims from kept (omega arith) (omega (arith, kept.0)) in
-    ⊎_elim
-    (λ one. longest-in paint from count with (claim ∷ claims) claims taken (longest-one paint from count end claim claims one begun later kept within agree)
-    (in_front-apart claim claims one kept.1 ∙ ap (λ byte. in_front byte (Some with) claims) begun))
-    (λ other. let long : 1 < claim.range.len = omega (arith, kept.0, other) in
-    longest-in paint from count with (claim ∷ claims) (shorter claim ∷ claims) taken (longest-long paint from count end claim claims long begun later kept within agree)
-    (in_front-joins claim claims kept.0 ∙ ap (λ byte. in_front byte (Some with) (shorter claim ∷ claims)) begun))
-    (cases_eq claim.range.len 1)
-
--- a canonical list that lies between two bytes is the list of the longest claims there
-pub longest-from : (paint : ℕ → Option (ℕ × ℕ)) (from count end : ℕ) → end ≡ from + count → AreLongest paint from count end
-longest-from paint from zero end total [] kept begins within agree = unfold longest_claims in refl
-longest-from paint from zero end total (claim ∷ claims) kept begins within agree =
-    let fits : claim.range.at + claim.range.len ≤ end = All-head (EndsBy end) claim claims within in
-    absurd (omega (arith, kept.0, begins))
-longest-from paint from (suc count) end total [] kept begins within agree =
-    longest-out paint from count [] (sym (agree from (omega arith) (omega arith)))
-    (longest-from paint (suc from) count end (omega arith) [] tt tt within (λ byte low high. agree byte (omega arith) high))
-longest-from paint from (suc count) end total (claim ∷ claims) kept begins within agree =
-    let later : AreLongest paint (suc from) count end = longest-from paint (suc from) count end (omega arith) in
-    ⊎_elim
-    (λ before. longest-out paint from count (claim ∷ claims)
-    (sym (agree from (omega arith) (omega arith)) ∙ painted-before (claim ∷ claims) from kept before)
-    (later (claim ∷ claims) kept before within (λ byte low high. agree byte (omega arith) high)))
-    (λ at. longest-begun paint from count end claim claims (omega (arith, begins, at)) later kept within agree)
-    (cases_lt from claim.range.at)
+-- no claim has a byte behind which none ends
+pub painted-past : (claims : List Claim) (end byte : ℕ) → All (EndsBy end) claims → end ≤ byte → painted claims byte ≡ None
+painted-past [] end byte within past = refl
+painted-past (claim ∷ claims) end byte within past =
+    let ends : claim.range.at + claim.range.len ≤ end = All-head (EndsBy end) claim claims within in
+    painted-after claim claims byte (omega arith) ∙ painted-past claims end byte (All-tail (EndsBy end) claim claims within) past
 
 some_none : (paint : ℕ × ℕ) → Some paint ≡ None → ⊥
 some_none paint same = cc
 
-lesser_some : (paint other : ℕ × ℕ) → lesser_paint (Some paint) (Some other) ≡ None → ⊥
-lesser_some paint other none =
-    ⊎_elim
-    (λ first. some_none paint (sym (cond-true (leb paint.0 other.0) (Some paint) (Some other) first) ∙ none))
-    (λ second. some_none other (sym (cond-false (leb paint.0 other.0) (Some paint) (Some other) second) ∙ none))
-    (cases_Bool (leb paint.0 other.0))
-
-none_later : (paint other : Option (ℕ × ℕ)) → lesser_paint paint other ≡ None → other ≡ None
-none_later None other none = none
-none_later (Some paint) None none = refl
-none_later (Some paint) (Some other) none = absurd (lesser_some paint other none)
+same_paint : (a b : ℕ × ℕ) → Some a ≡ Some b → (a.0 ≡ b.0) × (a.1 ≡ b.1)
+same_paint a b same = (cc, cc)
 
 -- a canonical list has no claim behind the byte from which on it paints no byte
 pub ends_where_painted : (claims : List Claim) (end : ℕ) → IsFillMap claims → ((byte : ℕ) → end ≤ byte → painted claims byte ≡ None)
@@ -186,29 +93,252 @@ ends_where_painted (claim ∷ claims) end kept out =
     (λ past. absurd (some_none (claim.rule, claim.fill) (sym (painted-inside claim claims last kept (omega arith) (omega (arith, kept.0))) ∙ out last past)))
     (cases_lt last end) in
     All-cons (EndsBy end) claim claims fits
-    (ends_where_painted claims end kept.2 (λ byte behind. none_later (paint_of claim byte) (painted claims byte) (out byte behind)))
+    (ends_where_painted claims end kept.2 (λ byte behind. sym (painted-after claim claims byte (omega arith)) ∙ out byte behind))
+
+-- the byte right behind a claim has no paint or one of another rule
+rule-behind : (end rule : ℕ) (claims : List Claim) (paint : ℕ × ℕ) → BeginsApart end rule claims → IsFillMap claims → painted claims end ≡ Some paint → rule ≢ paint.0
+rule-behind end rule [] paint apart kept has = absurd (some_none paint (sym has))
+rule-behind end rule (claim ∷ claims) paint apart kept has =
+    ⊎_elim
+    (λ before. absurd (some_none paint (sym has ∙ painted-before (claim ∷ claims) end kept before)))
+    (λ begun. let at : end ≡ claim.range.at = omega (arith, apart.0) in
+    let first : painted (claim ∷ claims) claim.range.at ≡ Some paint = subst (λ (byte : ℕ). painted (claim ∷ claims) byte ≡ Some paint) at has in
+    let same = same_paint (claim.rule, claim.fill) paint (sym (painted-first claim claims kept) ∙ first) in
+    λ other. apart.1 at (other ∙ sym same.0))
+    (cases_lt end claim.range.at)
+
+-- whether two lists paint each byte alike
+abbrev PaintAlike : List Claim → List Claim → Type 0
+PaintAlike a b = (byte : ℕ) → painted a byte ≡ painted b byte
+
+-- where canonical lists paint alike, neither begins later, and then no first claim ends later
+begins_no_later : (claim other : Claim) (claims others : List Claim) → IsFillMap (claim ∷ claims) → IsFillMap (other ∷ others)
+    → PaintAlike (claim ∷ claims) (other ∷ others) → claim.range.at ≤ other.range.at
+begins_no_later claim other claims others kept kept_other alike =
+    ⊎_elim
+    (λ before. absurd (some_none (other.rule, other.fill)
+    (sym (painted-first other others kept_other) ∙ sym (alike other.range.at) ∙ painted-before (claim ∷ claims) other.range.at kept before)))
+    (λ begun. begun)
+    (cases_lt other.range.at claim.range.at)
+
+ends_no_later : (claim other : Claim) (claims others : List Claim) → IsFillMap (claim ∷ claims) → IsFillMap (other ∷ others)
+    → PaintAlike (claim ∷ claims) (other ∷ others) → claim.range.at ≡ other.range.at → claim.rule ≡ other.rule → claim.range.len ≤ other.range.len
+ends_no_later claim other claims others kept kept_other alike at rule =
+    ⊎_elim
+    (λ shorter. let end : ℕ = other.range.at + other.range.len in
+    let has : painted others end ≡ Some (claim.rule, claim.fill) =
+    sym (painted-after other others end (omega arith)) ∙ sym (alike end) ∙ painted-inside claim claims end kept (omega arith) (omega arith) in
+    absurd (rule-behind end other.rule others (claim.rule, claim.fill) kept_other.1 kept_other.2 has (sym rule)))
+    (λ long. long)
+    (cases_lt other.range.len claim.range.len)
+
+same_claim : (a b : Claim) → a.range.at ≡ b.range.at → a.range.len ≡ b.range.len → a.rule ≡ b.rule → a.fill ≡ b.fill → a ≡ b
+same_claim a b at len rule fill =
+    let parts : record { range = record { at = a.range.at; len = a.range.len }; rule = a.rule; fill = a.fill }
+    ≡ record { range = record { at = b.range.at; len = b.range.len }; rule = b.rule; fill = b.fill } = cc in
+    parts
+
+-- two canonical lists of claims that paint each byte alike are one
+pub same_fill_map : (a b : List Claim) → IsFillMap a → IsFillMap b → ((byte : ℕ) → painted a byte ≡ painted b byte) → a ≡ b
+same_fill_map [] [] kept_a kept_b alike = refl
+same_fill_map [] (other ∷ others) kept_a kept_b alike =
+    absurd (some_none (other.rule, other.fill) (sym (painted-first other others kept_b) ∙ sym (alike other.range.at)))
+same_fill_map (claim ∷ claims) [] kept_a kept_b alike =
+    absurd (some_none (claim.rule, claim.fill) (sym (painted-first claim claims kept_a) ∙ alike claim.range.at))
+same_fill_map (claim ∷ claims) (other ∷ others) kept_a kept_b alike =
+    let unlike : PaintAlike (other ∷ others) (claim ∷ claims) = λ byte. sym (alike byte) in
+    let at : claim.range.at ≡ other.range.at =
+    omega (arith, begins_no_later claim other claims others kept_a kept_b alike, begins_no_later other claim others claims kept_b kept_a unlike) in
+    let paint = same_paint (claim.rule, claim.fill) (other.rule, other.fill)
+    (sym (painted-first claim claims kept_a) ∙ alike claim.range.at ∙ ap (λ byte. painted (other ∷ others) byte) at ∙ painted-first other others kept_b) in
+    let len : claim.range.len ≡ other.range.len =
+    omega (arith, ends_no_later claim other claims others kept_a kept_b alike at paint.0, ends_no_later other claim others claims kept_b kept_a unlike (sym at) (sym paint.0)) in
+    let rest : PaintAlike claims others =
+    λ byte. ⊎_elim
+    (λ before. tail-before claim claims byte kept_a before ∙ sym (tail-before other others byte kept_b (omega arith)))
+    (λ behind. sym (painted-after claim claims byte behind) ∙ alike byte ∙ painted-after other others byte (omega arith))
+    (cases_lt byte (claim.range.at + claim.range.len)) in
+    let firsts : claim ≡ other = same_claim claim other at len paint.0 paint.1 in
+    let others_too : claims ≡ others = same_fill_map claims others kept_a.2 kept_b.2 rest in
+    cc
+
+-- side by side, a canonical list gives one fill to one rule
+neighbours_agree : (claims : List Claim) → IsFillMap claims → NeighboursAgree (painted claims)
+neighbours_agree [] kept byte this next has has_next rule = absurd (some_none this (sym has))
+neighbours_agree (claim ∷ claims) kept byte this next has has_next rule =
+    let end : ℕ = claim.range.at + claim.range.len in
+    ⊎_elim
+    (λ before. absurd (some_none this (sym has ∙ painted-before (claim ∷ claims) byte kept before)))
+    (λ begun. ⊎_elim
+    (λ inside. let is = same_paint this (claim.rule, claim.fill) (sym has ∙ painted-inside claim claims byte kept begun inside) in
+    ⊎_elim
+    (λ inside_next. is.1 ∙ sym (same_paint next (claim.rule, claim.fill) (sym has_next ∙ painted-inside claim claims (suc byte) kept (omega arith) inside_next)).1)
+    (λ past. let at : suc byte ≡ end = omega arith in
+    let behind : painted claims end ≡ Some next =
+    ap (λ (b : ℕ). painted claims b) (sym at) ∙ sym (painted-after claim claims (suc byte) past) ∙ has_next in
+    absurd (rule-behind end claim.rule claims next kept.1 kept.2 behind (sym is.0 ∙ rule)))
+    (cases_lt (suc byte) end))
+    (λ behind. neighbours_agree claims kept.2 byte this next (sym (painted-after claim claims byte behind) ∙ has)
+    (sym (painted-after claim claims (suc byte) (omega arith)) ∙ has_next) rule)
+    (cases_lt byte end))
+    (cases_lt byte claim.range.at)
+
+-- a byte with this paint is put in front of claims: the list is canonical again
+in_front-kept : (from : ℕ) (paint : Option (ℕ × ℕ)) (claims : List Claim) → IsFillMap claims → BeginsFrom (suc from) claims
+    → IsFillMap (in_front from paint claims) × BeginsFrom from (in_front from paint claims)
+in_front-kept from None [] kept begins = (tt, tt)
+in_front-kept from None (claim ∷ claims) kept begins = (kept, omega arith)
+in_front-kept from (Some paint) [] kept begins = ((omega arith, tt, tt), omega arith)
+in_front-kept from (Some paint) (claim ∷ claims) kept begins =
+    cond_both (claim.range.at == suc from && claim.rule == paint.0)
+    (record { range = record { at = from; len = suc claim.range.len }; rule = paint.0; fill = paint.1 } ∷ claims) (one_byte from paint ∷ claim ∷ claims)
+    (λ (list : List Claim). IsFillMap list × BeginsFrom from list)
+    (λ meets. let end : claim.range.at + claim.range.len ≡ from + suc claim.range.len = grind (arith, nat_tests) in
+    let rule : claim.rule ≡ paint.0 = grind (arith, nat_tests) in
+    ((omega arith, subst (λ (byte : ℕ). BeginsApart byte paint.0 claims) end (subst (λ (r : ℕ). BeginsApart (claim.range.at + claim.range.len) r claims) rule kept.1), kept.2), omega arith))
+    (λ misses. ((omega arith, (omega arith, λ at rule. grind (arith, nat_tests)), kept), omega arith))
+
+longest-kept : (paint : ℕ → Option (ℕ × ℕ)) (from count : ℕ) → IsFillMap (longest_claims paint from count) × BeginsFrom from (longest_claims paint from count)
+unfolding longest_claims
+longest-kept paint from zero = (tt, tt)
+longest-kept paint from (suc count) =
+    let later = longest-kept paint (suc from) count in
+    in_front-kept from (paint from) (longest_claims paint (suc from) count) later.0 later.1
+
+-- the longest claims are a canonical list
+pub longest_claims-kept : (paint : ℕ → Option (ℕ × ℕ)) (end : ℕ) → IsFillMap (longest_claims paint 0 end)
+longest_claims-kept paint end = (longest-kept paint 0 end).0
+
+-- a byte that is put in front of claims is added to their bytes where it has a paint
+covers-in_front : (from : ℕ) (paint : Option (ℕ × ℕ)) (claims : List Claim) (byte : ℕ)
+    → covers (ranges_of (in_front from paint claims)) byte ≡ ((byte == from && is_some paint) || covers (ranges_of claims) byte)
+covers-in_front from None claims byte = grind (arith, nat_tests)
+covers-in_front from (Some paint) [] byte = grind (arith, nat_tests)
+covers-in_front from (Some paint) (claim ∷ claims) byte = grind (arith, nat_tests)
+
+-- the bytes of a range that pass a test are the first of them and those behind
+one_more : (test : ℕ → Bool) (from count byte : ℕ) → ((byte == from && test from) || (in_range (record { at = suc from; len = count }) byte && test byte))
+    ≡ (in_range (record { at = from; len = suc count }) byte && test byte)
+one_more test from count byte = grind (arith, nat_tests)
+
+-- the longest claims have the bytes that have a paint
+pub longest-covers : (paint : ℕ → Option (ℕ × ℕ)) (from count byte : ℕ)
+    → covers (ranges_of (longest_claims paint from count)) byte ≡ (in_range (record { at = from; len = count }) byte && is_some (paint byte))
+unfolding longest_claims
+longest-covers paint from zero byte =
+    let out : in_range (record { at = from; len = 0 }) byte ≡ false = grind (arith, nat_tests) in
+    rw out refl
+longest-covers paint from (suc count) byte =
+    covers-in_front from (paint from) (longest_claims paint (suc from) count) byte
+    ∙ ap (λ rest. (byte == from && is_some (paint from)) || rest) (longest-covers paint (suc from) count byte)
+    ∙ one_more (λ b. is_some (paint b)) from count byte
+
+pub lesser-none : (paint : Option (ℕ × ℕ)) → lesser_paint paint None ≡ paint
+lesser-none None = refl
+lesser-none (Some paint) = refl
+
+lesser_twice : (paint : ℕ × ℕ) (rest : Option (ℕ × ℕ)) → lesser_paint (Some paint) (lesser_paint (Some paint) rest) ≡ lesser_paint (Some paint) rest
+lesser_twice paint None = grind (arith, nat_tests)
+lesser_twice paint (Some other) = grind (arith, nat_tests)
+
+-- one paint on the bytes of one set or of another
+pub paint_either : (a b : Bool) (paint : ℕ × ℕ) (rest : Option (ℕ × ℕ))
+    → lesser_paint (cond (a || b) (Some paint) None) rest ≡ lesser_paint (cond a (Some paint) None) (lesser_paint (cond b (Some paint) None) rest)
+paint_either false b paint rest = refl
+paint_either true false paint rest = refl
+paint_either true true paint rest = sym (lesser_twice paint rest)
+
+-- a byte that is put in front of claims has its paint, and the others keep theirs, where the joined bytes have one fill
+painted-in_front : (from : ℕ) (paint : Option (ℕ × ℕ)) (claims : List Claim) (byte : ℕ) → IsFillMap claims
+    → ((this next : ℕ × ℕ) → paint ≡ Some this → painted claims (suc from) ≡ Some next → this.0 ≡ next.0 → this.1 ≡ next.1)
+    → painted (in_front from paint claims) byte ≡ lesser_paint (cond (byte == from) paint None) (painted claims byte)
+painted-in_front from None claims byte kept agree =
+    elim (byte == from) as (λ same. painted claims byte ≡ lesser_paint (cond same None None) (painted claims byte)) [ true ↦ refl | false ↦ refl ]
+painted-in_front from (Some paint) [] byte kept agree =
+    let alone : in_range (record { at = from; len = 1 }) byte ≡ (byte == from) = grind (arith, nat_tests) in
+    rw alone refl
+painted-in_front from (Some paint) (claim ∷ claims) byte kept agree =
+    cond_both (claim.range.at == suc from && claim.rule == paint.0)
+    (record { range = record { at = from; len = suc claim.range.len }; rule = paint.0; fill = paint.1 } ∷ claims) (one_byte from paint ∷ claim ∷ claims)
+    (λ (list : List Claim). painted list byte ≡ lesser_paint (cond (byte == from) (Some paint) None) (painted (claim ∷ claims) byte))
+    (λ meets. let at : claim.range.at ≡ suc from = grind (arith, nat_tests) in
+    let rule : claim.rule ≡ paint.0 = grind (arith, nat_tests) in
+    let next : painted (claim ∷ claims) (suc from) ≡ Some (claim.rule, claim.fill) = ap (λ b. painted (claim ∷ claims) b) (sym at) ∙ painted-first claim claims kept in
+    let fill : paint.1 ≡ claim.fill = agree paint (claim.rule, claim.fill) refl next (sym rule) in
+    let joined : in_range (record { at = from; len = suc claim.range.len }) byte ≡ (byte == from || in_range claim.range byte) = grind (arith, nat_tests) in
+    rw (joined, rule, ← fill) (paint_either (byte == from) (in_range claim.range byte) paint (painted claims byte)))
+    (λ misses. let alone : in_range (record { at = from; len = 1 }) byte ≡ (byte == from) = grind (arith, nat_tests) in
+    rw alone refl)
+
+one_more_paint : (paint : ℕ → Option (ℕ × ℕ)) (from count byte : ℕ)
+    → lesser_paint (cond (byte == from) (paint from) None) (cond (in_range (record { at = suc from; len = count }) byte) (paint byte) None)
+    ≡ cond (in_range (record { at = from; len = suc count }) byte) (paint byte) None
+one_more_paint paint from count byte = grind (arith, nat_tests, lesser-none)
+
+longest-painted : (paint : ℕ → Option (ℕ × ℕ)) (from count byte : ℕ) → NeighboursAgree paint
+    → painted (longest_claims paint from count) byte ≡ cond (in_range (record { at = from; len = count }) byte) (paint byte) None
+unfolding longest_claims
+longest-painted paint from zero byte agree =
+    let out : in_range (record { at = from; len = 0 }) byte ≡ false = grind (arith, nat_tests) in
+    rw out refl
+longest-painted paint from (suc count) byte agree =
+    let rest : List Claim = longest_claims paint (suc from) count in
+    painted-in_front from (paint from) rest byte (longest-kept paint (suc from) count).0
+    (λ this next has has_next rule. agree from this next has
+    (cond_some (in_range (record { at = suc from; len = count }) (suc from)) (paint (suc from)) next (sym (longest-painted paint (suc from) count (suc from) agree) ∙ has_next)) rule)
+    ∙ ap (lesser_paint (cond (byte == from) (paint from) None)) (longest-painted paint (suc from) count byte agree)
+    ∙ one_more_paint paint from count byte
+  where
+    cond_some : (test : Bool) (o : Option (ℕ × ℕ)) (p : ℕ × ℕ) → cond test o None ≡ Some p → o ≡ Some p
+    cond_some true o p same = same
+    cond_some false o p same = absurd cc
+
+-- and these paints, where side by side one rule has one fill
+pub longest_claims-paint : (paint : ℕ → Option (ℕ × ℕ)) (end byte : ℕ) → NeighboursAgree paint → byte < end → painted (longest_claims paint 0 end) byte ≡ paint byte
+longest_claims-paint paint end byte agree inside =
+    longest-painted paint 0 end byte agree ∙ cond-true (in_range (record { at = 0; len = end }) byte) (paint byte) None (in_range-inside (record { at = 0; len = end }) byte (omega arith) (omega arith))
+
+some-lesser_paint : (paint : ℕ × ℕ) (other : Option (ℕ × ℕ)) → true ≡ is_some (lesser_paint (Some paint) other)
+some-lesser_paint paint None = refl
+some-lesser_paint paint (Some other) =
+    elim (nat_le paint.0 other.0) as (λ test. true ≡ is_some (cond test (Some paint) (Some other))) [ true ↦ refl | false ↦ refl ]
+
+some-paint : (test : Bool) (paint : ℕ × ℕ) (other : Option (ℕ × ℕ))
+    → (test || is_some other) ≡ is_some (lesser_paint (cond test (Some paint) None) other)
+some-paint true paint other = some-lesser_paint paint other
+some-paint false paint other = refl
+
+-- the claimed bytes are those of the claims' ranges
+pub covers-claims : (claims : List Claim) (byte : ℕ) → covers (ranges_of claims) byte ≡ is_some (painted claims byte)
+covers-claims [] byte = refl
+covers-claims (claim ∷ claims) byte =
+    ap (λ rest. in_range claim.range byte || rest) (covers-claims claims byte)
+    ∙ some-paint (in_range claim.range byte) (claim.rule, claim.fill) (painted claims byte)
+
+none_from : (paint : Option (ℕ × ℕ)) → is_some paint ≡ false → paint ≡ None
+none_from None none = refl
+none_from (Some paint) none = absurd cc
+
+longest-past : (paint : ℕ → Option (ℕ × ℕ)) (end byte : ℕ) → end ≤ byte → painted (longest_claims paint 0 end) byte ≡ None
+longest-past paint end byte past =
+    let out : in_range (record { at = 0; len = end }) byte ≡ false = in_range-behind (record { at = 0; len = end }) byte (omega arith) in
+    none_from (painted (longest_claims paint 0 end) byte)
+    (sym (covers-claims (longest_claims paint 0 end) byte) ∙ longest-covers paint 0 end byte ∙ rw out refl)
+
+-- they end with the last byte
+pub longest_claims-ends : (paint : ℕ → Option (ℕ × ℕ)) (end : ℕ) → All (EndsBy end) (longest_claims paint 0 end)
+longest_claims-ends paint end = ends_where_painted (longest_claims paint 0 end) end (longest_claims-kept paint end) (longest-past paint end)
 
 -- a canonical list of claims that paints each byte as a function says, and no claim of which ends behind a byte, is
 -- the list of the longest claims in front of that byte
 pub same_as_longest_claims : (paint : ℕ → Option (ℕ × ℕ)) (end : ℕ) (claims : List Claim) → IsFillMap claims
     → ((byte : ℕ) → painted claims byte ≡ paint byte) → All (λ claim. claim.range.at + claim.range.len ≤ end) claims
     → claims ≡ longest_claims paint 0 end
-same_as_longest_claims paint end claims kept agree within =
-    longest-from paint 0 end end (omega arith) claims kept (begins_anywhere claims) within (λ byte low high. agree byte)
-
--- a byte behind which no claim of a list ends
-end_of : List Claim → ℕ
-end_of [] = 0
-end_of (claim ∷ claims) = claim.range.at + claim.range.len + end_of claims
-
-end_of-ends : (claims : List Claim) (end : ℕ) → end_of claims ≤ end → All (EndsBy end) claims
-unfolding end_of
-end_of-ends [] end fits = All-nil (EndsBy end)
-end_of-ends (claim ∷ claims) end fits = All-cons (EndsBy end) claim claims (omega (arith, fits)) (end_of-ends claims end (omega (arith, fits)))
-
--- two canonical lists of claims that paint each byte alike are one
-pub same_fill_map : (a b : List Claim) → IsFillMap a → IsFillMap b → ((byte : ℕ) → painted a byte ≡ painted b byte) → a ≡ b
-same_fill_map a b kept_a kept_b agree =
-    let end : ℕ = end_of a + end_of b in
-    same_as_longest_claims (painted b) end a kept_a agree (end_of-ends a end (omega arith))
-    ∙ sym (same_as_longest_claims (painted b) end b kept_b (λ byte. refl) (end_of-ends b end (omega arith)))
+same_as_longest_claims paint end claims kept same within =
+    let agree : NeighboursAgree paint =
+    λ byte this next has has_next rule. neighbours_agree claims kept byte this next (same byte ∙ has) (same (suc byte) ∙ has_next) rule in
+    same_fill_map claims (longest_claims paint 0 end) kept (longest_claims-kept paint end)
+    (λ byte. ⊎_elim
+    (λ inside. same byte ∙ sym (longest_claims-paint paint end byte agree inside))
+    (λ past. painted-past claims end byte within past ∙ sym (longest-past paint end byte past))
+    (cases_lt byte end))

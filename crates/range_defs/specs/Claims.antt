@@ -1,5 +1,6 @@
 -- Claims: which rule has a byte, and with what it fills it.
-use Rattle.std.specs.Prelude.{◌≡◌, ◌≢◌, AllPairs, ℕ, zero, suc, ◌+◌, ◌<◌, ◌≤◌, ◌&&◌, ◌==◌, if◌then◌else◌, nat_le, Option, Some, None, List, [], ◌∷◌}
+use Rattle.std.specs.Prelude.{◌≡◌, ◌≢◌, AllPairs, ℕ, zero, suc, ◌+◌, ◌<◌, ◌≤◌, ◌&&◌, ◌==◌, if◌then◌else◌, nat_le, Option, Some, None, List, [], ◌∷◌, map}
+use Rattle.range_defs.specs.declared.Range.{Range}
 use Rattle.range_defs.specs.declared.Claim.{Claim}
 use Rattle.range_defs.specs.Places.{in_range}
 
@@ -51,3 +52,11 @@ in_front byte (Some paint) (claim ∷ claims) =
 unfoldable pub longest_claims : (ℕ → Option (ℕ × ℕ)) → ℕ → ℕ → List Claim
 longest_claims paint from zero = []
 longest_claims paint from (suc count) = in_front from (paint from) (longest_claims paint (suc from) count)
+
+-- two bytes side by side that have one rule have one fill
+abbrev pub NeighboursAgree : (ℕ → Option (ℕ × ℕ)) → Type 0
+NeighboursAgree paint = (byte : ℕ) (this next : ℕ × ℕ) → paint byte ≡ Some this → paint (suc byte) ≡ Some next → this.0 ≡ next.0 → this.1 ≡ next.1
+
+-- the range of each claim
+abbrev pub ranges_of : List Claim → List Range
+ranges_of claims = map (λ claim. claim.range) claims
