@@ -1,7 +1,7 @@
 //! A text that is read whole.
-ghost use Rattle.std.specs.Prelude.{◌≡◌, ◌≢◌, Err, ◌<◌, ◌≤◌, [], length, IfOk, IfSome, IfNone, IsErrOf};
+ghost use Rattle.std.specs.Prelude.{◌≡◌, ◌<◌, ◌≤◌, [], length, IfOk, IfSome, IfNone};
 ghost use Rattle.disk_defs.specs.Stream.{IsPartlyRead};
-ghost use Rattle.disk_defs.specs.Count.{Rose};
+ghost use Rattle.rx_store.specs.ReadFaults.{IsTextCounted};
 ghost use Rattle.rx_store.specs.declared.whole.ReadError.TheVariants.{Fault, NoMemory};
 
 use crate::source::Source;
@@ -51,10 +51,7 @@ pub fn read_to_end<R: Source>(
     ensures long { IfOk result (λ answer. IfNone answer
         (IfSome (R.rest source.old) (λ rest. limit < length rest))) }
     ensures left { IsPartlyRead (R.rest source.old) (R.rest source.new) }
-
-    ensures cause { IsErrOf result ReadError.Fault → Rose (R.faults source.old) (R.faults source.new) }
-    ensures counts { R.faults source.old ≤ R.faults source.new }
-    ensures calm { result ≢ Err ReadError.Fault → R.faults source.new ≡ R.faults source.old }
+    ensures counted { IsTextCounted result (R.faults source.old) (R.faults source.new) }
 {
     let mut text = Vec::new(alloc);
     let mut block = [0; BLOCK];
