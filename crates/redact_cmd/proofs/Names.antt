@@ -3,36 +3,25 @@ use Rattle.std.proofs.Common.{◌≡◌, ℕ, zero, suc, ◌+◌, ◌<◌, Bool,
 use Rattle.std.specs.List.{list_all}
 use Rattle.std.specs.List.Sorted.{IsPermutation}
 use Rattle.std.specs.Cmp.Lexicographic.{slice_cmp}
-use Rattle.std.specs.Ordering.{match_ordering, nat_cmp}
-use Rattle.std.specs.declared.cmp.Ordering.TheVariants.{Less, Equal, Greater}
+use Rattle.std.specs.FinMap.{nat_cmp-IsAntisymmetric, slice_cmp-IsAntisymmetric}
+use Rattle.std.specs.Ordering.{nat_cmp, is_lt}
 use Rattle.std.specs.String.{string_cmp}
 use Rattle.std.specs.BTreeSet.{insert_key}
+use Rattle.std.proofs.lemmas.Cmp.{nat_cmp_total, nat_list_cmp_total}
 use Rattle.std.proofs.lemmas.List.{take_more, map-append, length-map}
 use Rattle.std.proofs.lemmas.List.Folds.{list_all_at}
 use Rattle.std.proofs.lemmas.List.Sorted.{IsPermutation-map}
 use Rattle.ufs_defs.specs.Directory.{Entry}
-use Rattle.volume_defs.specs.RisingNumbers.{inserted_number, rising_numbers, rising_numbers_push}
-use Rattle.volume_defs.specs.SortedNames.{stands_before_name, list_is_sorted_names}
+use Rattle.order_defs.specs.Sorted.{distinct, rising_numbers}
+use Rattle.order_defs.specs.DistinctLaws.{distinct_push}
+use Rattle.order_defs.specs.SortedLaws.{sorted_law}
 use Rattle.volume_defs.specs.FirstForm.{is_first_name, is_first_entry, paths_of, names_of, named_inodes}
 use Rattle.volume_defs.specs.FirstKept.{both_hold}
 
 -- ---- the numbers
 
-chosen : (before same : Bool) (front equal behind other : List ℕ) → behind ≡ other
-    → match_ordering (cond before Less (cond same Equal Greater)) front equal behind ≡ (if before then front else (if same then equal else other))
-chosen true same front equal behind other is = refl
-chosen false true front equal behind other is = refl
-chosen false false front equal behind other is = is
-
--- a key goes where the number does
-key_is_inserted : (numbers : List ℕ) (number : ℕ) → insert_key nat_cmp numbers number ≡ inserted_number number numbers
-key_is_inserted [] number = refl
-key_is_inserted (first ∷ rest) number =
-    chosen (nat_lt number first) (number == first) (number ∷ first ∷ rest) (first ∷ rest) (first ∷ insert_key nat_cmp rest number) (first ∷ inserted_number number rest)
-    (ap (λ numbers. first ∷ numbers) (key_is_inserted rest number))
-
 pub no_number : rising_numbers [] ≡ []
-unfolding rising_numbers
+unfolding distinct
 no_number = refl
 
 -- the numbers of the entries in front of an index, and those of one more
@@ -41,8 +30,7 @@ pub numbers_more : (entries : List Entry) (index : ℕ) (entry : Entry) (keys mo
 numbers_more entries index entry keys more inside is before inserted =
     inserted
     ∙ ap (λ numbers. insert_key nat_cmp numbers entry.inode) before
-    ∙ key_is_inserted (named_inodes (take index entries)) entry.inode
-    ∙ sym (rising_numbers_push (map (λ entry. entry.inode) (take index entries)) entry.inode)
+    ∙ sym (distinct_push nat_cmp nat_cmp_total nat_cmp-IsAntisymmetric (map (λ entry. entry.inode) (take index entries)) entry.inode)
     ∙ ap rising_numbers
     (sym (map-append (λ entry. entry.inode) (take index entries) (entry ∷ []))
     ∙ ap (λ (other : Entry). map (λ entry. entry.inode) (take index entries ++ other ∷ [])) is
@@ -70,8 +58,8 @@ bytes_sorted : {Z : Type 0} (list : List (String Z)) → IsSorted string_cmp lis
 bytes_sorted [] rise = λ k d low inside. absurd (omega (arith, inside))
 bytes_sorted {Z = Z} (first ∷ rest) rise = λ k d low inside.
     let here : k + 1 < length (first ∷ rest) = omega (arith, inside, length-map rest (λ (x : String Z). string_bytes x)) in
-    ap (λ name. stands_before_name name (get_or (map string_bytes (first ∷ rest)) k d)) (bytes_at (first ∷ rest) (k + 1) first d here)
-    ∙ ap (λ name. stands_before_name (string_bytes (get_or (first ∷ rest) (k + 1) first)) name) (bytes_at (first ∷ rest) k first d (omega (arith, here)))
+    ap (λ name. is_lt (slice_cmp nat_cmp name (get_or (map string_bytes (first ∷ rest)) k d))) (bytes_at (first ∷ rest) (k + 1) first d here)
+    ∙ ap (λ name. is_lt (slice_cmp nat_cmp (string_bytes (get_or (first ∷ rest) (k + 1) first)) name)) (bytes_at (first ∷ rest) k first d (omega (arith, here)))
     ∙ rise k first low here
 
 -- the names of an inode, where its paths were sorted
@@ -79,4 +67,4 @@ pub sorted_paths : {Z : Type 0} (entries : List Entry) (number : ℕ) (paths sor
     → IsSorted string_cmp sorted → map string_bytes sorted ≡ names_of entries number
 sorted_paths entries number paths sorted are moved rise =
     let P : List (List ℕ) → Type 0 = λ list. IsPermutation list (map string_bytes sorted) in
-    list_is_sorted_names (paths_of entries number) (map string_bytes sorted) (bytes_sorted sorted rise) (subst P are (IsPermutation-map string_bytes paths sorted moved))
+    (sorted_law (slice_cmp nat_cmp) nat_list_cmp_total (paths_of entries number)).one_moved (slice_cmp-IsAntisymmetric nat_cmp-IsAntisymmetric) (map string_bytes sorted) (bytes_sorted sorted rise) (subst P are (IsPermutation-map string_bytes paths sorted moved))

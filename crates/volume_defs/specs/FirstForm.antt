@@ -16,8 +16,7 @@ use Rattle.ufs_defs.specs.Blocks.{block_size, block_count, block_place, content_
 use Rattle.ufs_defs.specs.declared.superblock.Superblock.{Superblock}
 use Rattle.ufs_defs.specs.declared.inode.Inode.{Inode}
 use Rattle.volume_defs.specs.Kind.{kind_of}
-use Rattle.volume_defs.specs.RisingNumbers.{rising_numbers}
-use Rattle.volume_defs.specs.SortedNames.{sorted_names}
+use Rattle.order_defs.specs.Sorted.{sorted_names, rising_numbers}
 
 -- an image that hasn't the first form says nothing
 pub data FirstFault : Type 0 where

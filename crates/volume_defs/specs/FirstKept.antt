@@ -1,12 +1,17 @@
 -- What the tests of the first form make sure of: the blocks of the root and of the files lie in the image, and so does
 -- what is looked at.
-use Rattle.std.specs.Prelude.{◌≡◌, ℕ, zero, suc, ◌+◌, ◌*◌, ◌<◌, ◌≤◌, ◌%◌, Bool, true, false, ◌&&◌, ◌==◌, nat_le, nat_lt, is_none, Option, Some, None, List, [], ◌∷◌, refl, map}
+use Rattle.std.specs.Prelude.{◌≡◌, ℕ, zero, suc, ◌+◌, ◌*◌, ◌<◌, ◌≤◌, ◌%◌, Bool, true, false, cond, ◌&&◌, ◌==◌, nat_le, nat_lt, is_none, Option, Some, None, List, [], ◌∷◌, refl, map}
 use Rattle.std.specs.List.{All, list_all}
+use Rattle.std.specs.List.Sorted.{IsStrictlySortedBy}
+use Rattle.std.specs.Ordering.{nat_cmp}
+use Rattle.std.specs.declared.cmp.Ordering.TheVariants.{Less, Equal, Greater}
 use Rattle.std.proofs.Common.{ap, sym, ◌∙◌, subst, arith, ⊎_elim}
 use Rattle.std.proofs.Math.Nat.{mul-le-mul_right}
 use Rattle.std.proofs.lemmas.Bool.{leb-true, ltb-true, cases_lt}
 use Rattle.std.proofs.lemmas.Bool.Decides.{Decides-eqb}
-use Rattle.std.proofs.lemmas.List.Elements.{All-cons, All-nil}
+use Rattle.std.proofs.lemmas.Cmp.{nat_cmp_total}
+use Rattle.std.proofs.lemmas.List.Elements.{All-cons, All-nil, recursion_from_All}
+use Rattle.order_defs.specs.DistinctLaws.{distinct_all, distinct_sorted}
 use Rattle.ufs_defs.specs.Signed.{counted}
 use Rattle.ufs_defs.specs.Superblock.{wrong_field}
 use Rattle.ufs_defs.specs.Directory.{Entry}
@@ -16,7 +21,6 @@ use Rattle.ufs_defs.specs.Blocks.{block_size, block_count, block_place}
 use Rattle.ufs_defs.specs.BlockLaws.{AreBlocksWithin, block_begins}
 use Rattle.ufs_defs.specs.declared.superblock.Superblock.{Superblock}
 use Rattle.ufs_defs.specs.declared.inode.Inode.{Inode}
-use Rattle.volume_defs.specs.RisingNumbers.{RiseAbove, rising_numbers_above}
 use Rattle.volume_defs.specs.FirstForm.{is_first_superblock, is_first_inode, has_block, has_blocks, is_plain, is_first_root, is_first_entry, is_first_name, is_first_file, named_inodes}
 
 pub both_hold : (first second : Bool) → (first && second) ≡ true → (first ≡ true) × (second ≡ true)
@@ -128,14 +132,20 @@ unfolding is_first_inode
 first_inode_within size superblock number good = leb-true (inode_place superblock number + 256) size (both_hold (nat_lt number (superblock.ncg * superblock.ipg)) _ good).1
 
 -- entries name inodes behind the root
-names_behind_root : (entries : List Entry) → list_all is_first_entry entries ≡ true → All (λ number. 2 < number) (map (λ entry. entry.inode) entries)
+names_behind_root : (entries : List Entry) → list_all is_first_entry entries ≡ true → All (λ number. nat_cmp 2 number ≡ Less) (map (λ entry. entry.inode) entries)
 unfolding is_first_entry
-names_behind_root [] named = All-nil (λ number. 2 < number)
+names_behind_root [] named = All-nil (λ number. nat_cmp 2 number ≡ Less)
 names_behind_root (entry ∷ entries) named =
     let both = both_hold (is_first_entry entry) (list_all is_first_entry entries) named in
-    All-cons (λ number. 2 < number) entry.inode (map (λ other. other.inode) entries)
-    (ltb-true 2 entry.inode (both_hold (is_first_name entry.name) (nat_lt 2 entry.inode) both.0).1)
+    All-cons (λ number. nat_cmp 2 number ≡ Less) entry.inode (map (λ other. other.inode) entries)
+    (ap (λ behind. cond behind Less (cond (2 == entry.inode) Equal Greater)) (both_hold (is_first_name entry.name) (nat_lt 2 entry.inode) both.0).1)
     (names_behind_root entries both.1)
 
-pub named_inodes_rise : (entries : List Entry) → list_all is_first_entry entries ≡ true → RiseAbove 2 (named_inodes entries)
-named_inodes_rise entries named = rising_numbers_above 2 (map (λ entry. entry.inode) entries) (names_behind_root entries named)
+pub named_inodes_rise : (entries : List Entry) → list_all is_first_entry entries ≡ true → IsStrictlySortedBy nat_cmp (2 ∷ named_inodes entries)
+unfolding IsStrictlySortedBy
+named_inodes_rise entries named =
+    let numbers : List ℕ = map (λ entry. entry.inode) entries in
+    (
+      recursion_from_All (λ number. nat_cmp 2 number ≡ Less) (named_inodes entries) (distinct_all nat_cmp (λ number. nat_cmp 2 number ≡ Less) numbers (names_behind_root entries named)),
+      distinct_sorted nat_cmp nat_cmp_total numbers,
+    )

@@ -2,12 +2,16 @@
 -- covered by their pieces.
 use Rattle.std.specs.Prelude.{◌≡◌, ℕ, ◌+◌, ◌<◌, ◌≤◌, ◌==◌, Bool, true, false, cond, List, [], ◌∷◌, ◌++◌, refl, IsSorted, map, length, get_or, take}
 use Rattle.std.specs.List.{All, filter, list_all}
+use Rattle.std.specs.List.Sorted.{IsStrictlySortedBy}
+use Rattle.std.specs.declared.cmp.Ordering.TheVariants.{Less}
 use Rattle.std.specs.Cmp.Lexicographic.{slice_cmp}
 use Rattle.std.specs.Ordering.{nat_cmp}
 use Rattle.std.proofs.Common.{ap, sym, subst, arith}
 use Rattle.std.proofs.lemmas.Bool.{lt-ltb}
+use Rattle.std.proofs.lemmas.Cmp.{ranked}
 use Rattle.std.proofs.lemmas.List.{take_all, take_more}
 use Rattle.std.proofs.lemmas.List.Elements.{All-cons, All-nil, All-append}
+use Rattle.order_defs.specs.DistinctLaws.{sorted_names_law}
 use Rattle.range_defs.specs.declared.Range.{Range}
 use Rattle.rx_tree.specs.Covering.{ArePiecesOf}
 use Rattle.rx_tree.specs.FoundPart.{FoundPart}
@@ -22,8 +26,6 @@ use Rattle.ufs_defs.specs.SlackLaws.{content_within}
 use Rattle.ufs_defs.specs.Directory.{Entry}
 use Rattle.ufs_defs.specs.declared.superblock.Superblock.{Superblock}
 use Rattle.ufs_defs.specs.declared.inode.Inode.{Inode}
-use Rattle.volume_defs.specs.RisingNumbers.{RiseAbove}
-use Rattle.volume_defs.specs.SortedNames.{sorted_names_sorted}
 use Rattle.volume_defs.specs.FirstForm.{is_first_superblock, is_first_inode, is_first_root, is_first_entry, is_first_file, paths_of, names_of, named_inodes, root_path, root_file, named_file}
 use Rattle.volume_defs.specs.FirstReader.{inode_range, probe_places}
 use Rattle.volume_defs.specs.FirstRanges.{first_ranges, probes_within}
@@ -137,14 +139,15 @@ first_ranges_within size superblock root entries others long has_root rooted are
 
 -- ---- they stand by rising number
 
-files_rise : (size : ℕ) (superblock : Superblock) (entries : List Entry) (low : ℕ) (numbers : List ℕ) (files : List FileEntry) → RiseAbove low numbers → AreFilesOf size superblock entries numbers files
+files_rise : (size : ℕ) (superblock : Superblock) (entries : List Entry) (low : ℕ) (numbers : List ℕ) (files : List FileEntry) → IsStrictlySortedBy nat_cmp (low ∷ numbers) → AreFilesOf size superblock entries numbers files
     → StandsBeforeAll (record { volume = 0; number = low }) files × HaveRisingIds files
+unfolding IsStrictlySortedBy
 files_rise size superblock entries low [] [] rise are = (tt, tt)
 files_rise size superblock entries low [] (file ∷ files) rise are = absurd are
 files_rise size superblock entries low (number ∷ numbers) [] rise are = absurd are
 files_rise size superblock entries low (number ∷ numbers) (file ∷ files) rise are =
     let P : FileEntry → Type 0 = λ found. StandsBeforeAll (record { volume = 0; number = low }) (found ∷ files) × HaveRisingIds (found ∷ files) in
-    subst P (sym are.0.whole) (lt-ltb low number rise.0, files_rise size superblock entries number numbers files rise.1 are.1)
+    subst P (sym are.0.whole) (lt-ltb low number (ranked low number Less (sym rise.0.0)), files_rise size superblock entries number numbers files rise.1 are.1)
 
 pub first_files_rise : (size : ℕ) (superblock : Superblock) (root : Inode) (entries : List Entry) (others : List FileEntry) → list_all is_first_entry entries ≡ true
     → AreFilesOf size superblock entries (named_inodes entries) others → HaveRisingIds (root_file superblock root ∷ others)
@@ -176,7 +179,7 @@ files_whole size superblock entries (number ∷ numbers) (file ∷ files) good a
     All-cons IsWhole file files
     (subst IsWhole (sym are.0.whole)
     (record {
-      sorted = sorted_names_sorted (paths_of entries number);
+      sorted = (sorted_names_law (paths_of entries number)).0;
       covered = content_covered superblock are.0.inode good;
     }))
     (files_whole size superblock entries numbers files good are.1)

@@ -1,6 +1,4 @@
 pub mod Kind
-pub mod RisingNumbers
-pub mod SortedNames
 pub mod FirstForm
 pub mod FirstTree
 pub mod FirstFootprint

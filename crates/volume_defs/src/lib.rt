@@ -3,8 +3,6 @@
 
 ghost use Rattle.volume_defs.specs.FirstFootprint.{FirstFormLaw};
 ghost use Rattle.volume_defs.specs.FirstTreeLaw.{FirstTreeLaw};
-ghost use Rattle.volume_defs.specs.RisingNumbers.{RisingNumbersLaw};
-ghost use Rattle.volume_defs.specs.SortedNames.{SortedNamesLaw};
 
 /// The law of the footprint for images of the first form: an image that has the same length and the same bytes in the
 /// guard has the same tree and the same guard, or hasn't the first form either.
@@ -16,14 +14,4 @@ pub fn first_form_footprint()
 /// in order, each file's names are sorted, and the pieces of each part cover it.
 pub fn first_form_is_a_tree()
     ensures { FirstTreeLaw }
-{}
-
-/// The inodes at which a definition looks rise strictly, and are those that the entries name.
-pub fn inodes_rise()
-    ensures { RisingNumbersLaw }
-{}
-
-/// The names of a file are those that the entries give it, in the order of their bytes.
-pub fn names_are_sorted()
-    ensures { SortedNamesLaw }
 {}

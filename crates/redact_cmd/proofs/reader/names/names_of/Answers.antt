@@ -1,7 +1,7 @@
 use Rattle.std.proofs.Common.{List, ℕ, IsSorted, sym, subst, ◌∙◌}
 use Rattle.std.specs.Cmp.Lexicographic.{slice_cmp}
 use Rattle.std.specs.Ordering.{nat_cmp}
-use Rattle.volume_defs.specs.SortedNames.{sorted_names_sorted}
+use Rattle.order_defs.specs.DistinctLaws.{sorted_names_law}
 use Rattle.volume_defs.specs.FirstForm.{paths_of}
 use Rattle.redact_cmd.proofs.Names.{sorted_paths}
 use Rattle.redact_cmd.proofs.reader.names.names_of.Goals as goal
@@ -12,7 +12,7 @@ from_vec-requires c =
     subst P
     (sym (c.in_ok-texts_of.ensures
     ∙ sorted_paths c.args.entries.now c.args.number c.in_ok-paths.paths.items c.sort.new.self.items c.in_ok-paths.ensures c.in_ok-sort.ensures.permutation c.in_ok-sort.ensures.sorted))
-    (sorted_names_sorted (paths_of c.args.entries.now c.args.number))
+    (sorted_names_law (paths_of c.args.entries.now c.args.number)).0
 
 pub returns : goal.returns
 returns c =

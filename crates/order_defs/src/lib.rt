@@ -1,0 +1,4 @@
+//! Lists in order.
+#![tactic(auto)]
+
+pub mod laws;
