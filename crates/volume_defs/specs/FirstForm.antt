@@ -85,6 +85,12 @@ is_first_file size superblock inode =
     && (is_plain inode
     && (nat_le inode.size (12 * block_size superblock) && has_blocks size superblock inode (block_count superblock inode)))
 
+-- the image is a UFS2
+unfoldable pub first_kind : Ask FirstFault (Unit {0})
+first_kind = do
+  kind ← kind_of
+  demand (is_first_kind kind)
+
 -- the superblock
 unfoldable pub first_superblock : Ask FirstFault Superblock
 first_superblock = do
@@ -171,7 +177,6 @@ files_below size superblock = do
 unfoldable pub first_files : ℕ → Ask FirstFault (List FileEntry)
 first_files size = do
   demand (is_first_length size)
-  kind ← kind_of
-  demand (is_first_kind kind)
+  first_kind
   superblock ← first_superblock
   files_below size superblock

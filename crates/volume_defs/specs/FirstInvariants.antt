@@ -17,9 +17,8 @@ use Rattle.ufs_defs.specs.Superblock.{superblock_of}
 use Rattle.ufs_defs.specs.Directory.{Entry}
 use Rattle.ufs_defs.specs.declared.superblock.Superblock.{Superblock}
 use Rattle.ufs_defs.specs.declared.inode.Inode.{Inode}
-use Rattle.volume_defs.specs.Kind.{kind_of}
 use Rattle.volume_defs.specs.EachRun.{each_first_gives}
-use Rattle.volume_defs.specs.FirstForm.{FirstFault, NotFirstForm, is_first_length, is_first_kind, is_first_superblock, is_first_inode, is_first_root, is_first_entry, is_first_file, first_superblock, first_inode, first_root, first_entries, first_file, files_below, first_files, named_inodes, root_file, named_file}
+use Rattle.volume_defs.specs.FirstForm.{FirstFault, NotFirstForm, is_first_length, first_kind, is_first_superblock, is_first_inode, is_first_root, is_first_entry, is_first_file, first_superblock, first_inode, first_root, first_entries, first_file, files_below, first_files, named_inodes, root_file, named_file}
 use Rattle.volume_defs.specs.FoundFiles.{IsFileOf, AreFilesOf, IsWhole, first_files_within, first_files_rise, first_files_whole}
 use Rattle.volume_defs.specs.FirstTree.{guard_of, tree_of, whole_volume}
 use Rattle.volume_defs.specs.FirstKept.{both_hold}
@@ -107,9 +106,8 @@ pub first_files_give : (image : List ℕ) (size : ℕ) (files : List FileEntry) 
 unfolding first_files
 first_files_give image size files gives =
     let long = check_gives image (is_first_length size) NotFirstForm _ files gives in
-    let kind = bind_gives image kind_of _ files long.1 in
-    let ufs = check_gives image (is_first_kind kind.0) NotFirstForm _ files kind.2 in
-    let superblock = bind_gives image first_superblock _ files ufs.1 in
+    let kind = bind_gives image first_kind _ files long.1 in
+    let superblock = bind_gives image first_superblock _ files kind.2 in
     below_gives image size superblock.0 files long.0 (superblock_gives image superblock.0 superblock.1) superblock.2
 
 -- the length of the image

@@ -1,21 +1,20 @@
 -- The ranges of an image of the first form at which one looks for its files, and its tree where they are known.
-use Rattle.std.specs.Prelude.{◌≡◌, ℕ, ◌+◌, ◌≤◌, Bool, true, false, Ok, Err, List, [], ◌∷◌, ◌++◌, length, map, refl}
+use Rattle.std.specs.Prelude.{◌≡◌, ℕ, ◌+◌, ◌≤◌, true, false, Ok, Err, List, [], ◌∷◌, ◌++◌, length, map, refl}
 use Rattle.std.specs.List.{list_all}
 use Rattle.std.proofs.Common.{ap, ◌∙◌, arith}
 use Rattle.std.proofs.lemmas.List.Elements.{All-cons, All-nil}
 use Rattle.range_defs.specs.declared.Range.{Range}
 use Rattle.range_defs.specs.Places.{covers, longest_ranges}
 use Rattle.image_defs.specs.Ask.{run, visits, each}
-use Rattle.image_defs.specs.Runs.{with_value, checked}
+use Rattle.image_defs.specs.Runs.{with_value}
 use Rattle.rx_tree.specs.Within.{AreRangesWithin}
 use Rattle.rx_tree.specs.declared.file.FileEntry.{FileEntry}
 use Rattle.ufs_defs.specs.Directory.{Entry}
 use Rattle.ufs_defs.specs.Blocks.{block_place}
 use Rattle.ufs_defs.specs.declared.superblock.Superblock.{Superblock}
 use Rattle.ufs_defs.specs.declared.inode.Inode.{Inode}
-use Rattle.volume_defs.specs.Kind.{fitting_kind}
-use Rattle.volume_defs.specs.FirstForm.{NotFirstForm, is_first_length, is_first_kind, is_first_inode, is_first_entry, first_superblock, first_root, first_entries, first_file, named_inodes, root_file, files_below, first_files}
-use Rattle.volume_defs.specs.FirstReader.{probes_of, probe_places, inode_range, run_first_files, run_first_files_length, run_first_files_kind, run_first_files_no_superblock, run_files_below, run_files_below_no_root, run_files_below_no_entries, run_files_below_bad_entry, run_files_below_no_file, visits_first_files, visits_files_below, visits_first_root, visits_first_inode, visits_first_entries, visits_found_files}
+use Rattle.volume_defs.specs.FirstForm.{NotFirstForm, is_first_length, first_kind, is_first_inode, is_first_entry, first_superblock, first_root, first_entries, first_file, named_inodes, root_file, files_below, first_files}
+use Rattle.volume_defs.specs.FirstReader.{probe_places, inode_range, run_first_files, run_first_files_length, run_first_files_kind, run_first_files_no_superblock, run_files_below, run_files_below_no_root, run_files_below_no_entries, run_files_below_bad_entry, run_files_below_no_file, visits_first_files, visits_files_below, visits_first_root, visits_first_inode, visits_first_entries, visits_found_files}
 use Rattle.volume_defs.specs.FirstTree.{guard_of, tree_of, first_tree}
 
 -- the places of the magics, the superblock, the inode of the root, its content, and the inodes of the files
@@ -39,7 +38,7 @@ probes_within size long =
 -- an image that is a UFS2 with this superblock
 pub record IsVolume (image : List ℕ) (size : ℕ) (superblock : Superblock) : Type 0 where
   pub long : is_first_length size ≡ true
-  pub kind : is_first_kind (fitting_kind (probes_of image)) ≡ true
+  pub kind : run image first_kind ≡ Ok tt
   pub read_superblock : run image first_superblock ≡ Ok superblock
 
 -- what was found in an image of the first form: its superblock, its root, the entries of that, and the files that they
@@ -98,19 +97,10 @@ no_files_tree image size superblock same volume none =
 pub no_length_tree : (image : List ℕ) (size : ℕ) → length image ≡ size → is_first_length size ≡ false → first_tree image ≡ Err NotFirstForm
 no_length_tree image size same bad = no_tree image size same (run_first_files_length image size bad)
 
-pub no_kind_tree : (image : List ℕ) (size : ℕ) → length image ≡ size → is_first_length size ≡ true → checked (is_first_kind (fitting_kind (probes_of image))) NotFirstForm ≡ Err NotFirstForm → first_tree image ≡ Err NotFirstForm
-no_kind_tree image size same long bad =
-    no_tree image size same (run_first_files_kind image size long (test_fails (is_first_kind (fitting_kind (probes_of image))) bad))
-  where
-    test_fails : (test : Bool) → checked test NotFirstForm ≡ Err NotFirstForm → test ≡ false
-    test_fails true bad = absurd cc
-    test_fails false bad = refl
+pub no_kind_tree : (image : List ℕ) (size : ℕ) → length image ≡ size → is_first_length size ≡ true → run image first_kind ≡ Err NotFirstForm → first_tree image ≡ Err NotFirstForm
+no_kind_tree image size same long bad = no_tree image size same (run_first_files_kind image size long bad)
 
-pub kind_holds : (test : Bool) → checked test NotFirstForm ≡ Ok tt → test ≡ true
-kind_holds true holds = refl
-kind_holds false holds = absurd cc
-
-pub no_superblock_tree : (image : List ℕ) (size : ℕ) → length image ≡ size → is_first_length size ≡ true → is_first_kind (fitting_kind (probes_of image)) ≡ true → run image first_superblock ≡ Err NotFirstForm
+pub no_superblock_tree : (image : List ℕ) (size : ℕ) → length image ≡ size → is_first_length size ≡ true → run image first_kind ≡ Ok tt → run image first_superblock ≡ Err NotFirstForm
     → first_tree image ≡ Err NotFirstForm
 no_superblock_tree image size same long kind none = no_tree image size same (run_first_files_no_superblock image size long kind none)
 

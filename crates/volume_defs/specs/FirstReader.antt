@@ -1,10 +1,10 @@
 -- How a reader of images of the first form follows the definition, step by step.
-use Rattle.std.specs.Prelude.{◌≡◌, ℕ, true, false, Ok, Err, List, [], ◌∷◌, ◌++◌, map, refl}
+use Rattle.std.specs.Prelude.{◌≡◌, ℕ, Bool, true, false, Option, Some, None, Ok, Err, List, [], ◌∷◌, ◌++◌, map, refl}
 use Rattle.std.specs.List.{list_all}
-use Rattle.std.proofs.Common.{ap, ◌∙◌}
+use Rattle.std.proofs.Common.{ap, sym, ◌∙◌}
 use Rattle.range_defs.specs.declared.Range.{Range}
 use Rattle.image_defs.specs.Bytes.{part}
-use Rattle.image_defs.specs.Ask.{Done, run, visits, ◌>>=◌, check, each}
+use Rattle.image_defs.specs.Ask.{Ask, Done, Stop, run, visits, ◌>>=◌, check, each}
 use Rattle.image_defs.specs.Looks.{bind_gives, check_gives}
 use Rattle.image_defs.specs.Runs.{run_bind_ok, run_bind_err, run_check_true, run_check_false, run_given, visits_next, visits_bind_done, visits_bind_ok, visits_bind_quiet, visits_check_quiet, visits_check_true, visits_each, visits_given}
 use Rattle.rx_tree.specs.declared.file.FileEntry.{FileEntry}
@@ -14,21 +14,13 @@ use Rattle.ufs_defs.specs.Directory.{Entry, entries_of}
 use Rattle.ufs_defs.specs.Blocks.{block_place}
 use Rattle.ufs_defs.specs.declared.superblock.Superblock.{Superblock}
 use Rattle.ufs_defs.specs.declared.inode.Inode.{Inode}
-use Rattle.volume_defs.specs.Kind.{Probes, fitting_kind, kind_of}
+use Rattle.rx_tree.specs.declared.volume.FsKind.{FsKind}
+use Rattle.rx_tree.specs.declared.volume.FsKind.TheVariants.{Ntfs, Ufs1, Ufs2, HfsPlus}
+use Rattle.volume_defs.specs.Kind.{is_ntfs, is_hfs, is_ufs1, is_ufs2, or_rest, kind_of, kind_behind_ntfs, kind_behind_hfs, kind_behind_ufs1}
 use Rattle.volume_defs.specs.EachRun.{each_first_gives}
-use Rattle.volume_defs.specs.FirstForm.{FirstFault, NotFirstForm, is_first_length, is_first_kind, is_first_superblock, is_first_inode, is_first_root, is_first_entry, is_first_file, first_superblock, first_inode, first_root, first_entries, first_file, listed, named_inodes, named_file, root_file, files_below, first_files}
+use Rattle.volume_defs.specs.FirstForm.{FirstFault, NotFirstForm, demand, is_first_length, is_first_kind, first_kind, is_first_superblock, is_first_inode, is_first_root, is_first_entry, is_first_file, first_superblock, first_inode, first_root, first_entries, first_file, listed, named_inodes, named_file, root_file, files_below, first_files}
 
 -- ---- the kind
-
--- the bytes of an image at the places of the magics
-abbrev pub probes_of : List ℕ → Probes
-probes_of image = record {
-  ntfs_name = part image 3 8;
-  ntfs_mark = part image 510 2;
-  hfs = part image 1024 4;
-  ufs1 = part image 9564 4;
-  ufs2 = part image 66908 4;
-}
 
 -- the places of the magics
 abbrev pub probe_places : List Range
@@ -40,13 +32,30 @@ probe_places =
     ∷ record { at = 66908; len = 4 }
     ∷ []
 
-pub run_kind : (E : Type 0) (image : List ℕ) → run image (kind_of {E = E}) ≡ Ok (fitting_kind (probes_of image))
-unfolding kind_of
-run_kind E image = refl
+-- a kind that isn't that of the first form stops, and the magic of such a kind doesn't fit where the program gives something
+kind_past : {E Y : Type 0} (image : List ℕ) (fits : Bool) (kind : FsKind) (rest : Ask E (Option FsKind)) (next : Option FsKind → Ask E Y) (fault : E) (y : Y) → next (Some kind) ≡ Stop fault
+    → run image (or_rest fits kind rest >>= next) ≡ Ok y → (run image (rest >>= next) ≡ Ok y) × (visits image (or_rest fits kind rest >>= next) ≡ visits image (rest >>= next))
+kind_past image true kind rest next fault y stops gives =
+    let none : Err fault ≡ Ok y = ap (λ ask. run image ask) (sym stops) ∙ gives in
+    absurd cc
+kind_past image false kind rest next fault y stops gives = (gives, refl)
 
-pub visits_kind : (E : Type 0) (image : List ℕ) → visits image (kind_of {E = E}) ≡ probe_places
-unfolding kind_of
-visits_kind E image = refl
+-- the places of all magics were looked at where the image is a UFS2
+pub visits_first_kind : (image : List ℕ) → run image first_kind ≡ Ok tt → visits image first_kind ≡ probe_places
+unfolding first_kind kind_of kind_behind_ntfs kind_behind_hfs kind_behind_ufs1
+visits_first_kind image gives =
+    let next : Option FsKind → Ask FirstFault (Unit {0}) = λ kind. demand (is_first_kind kind) in
+    let ntfs = kind_past image (is_ntfs (part image 3 8) (part image 510 2)) Ntfs kind_behind_ntfs next NotFirstForm tt refl gives in
+    let hfs = kind_past image (is_hfs (part image 1024 4)) HfsPlus kind_behind_hfs next NotFirstForm tt refl ntfs.0 in
+    let ufs1 = kind_past image (is_ufs1 (part image 9564 4)) Ufs1 kind_behind_ufs1 next NotFirstForm tt refl hfs.0 in
+    ap (λ ranges. record { at = 3; len = 8 } ∷ record { at = 510; len = 2 } ∷ ranges)
+    (ntfs.1 ∙ ap (λ ranges. record { at = 1024; len = 4 } ∷ ranges)
+    (hfs.1 ∙ ap (λ ranges. record { at = 9564; len = 4 } ∷ ranges)
+    (ufs1.1 ∙ ap (λ ranges. record { at = 66908; len = 4 } ∷ ranges) (last (is_ufs2 (part image 66908 4))))))
+  where
+    last : (fits : Bool) → visits image (or_rest fits Ufs2 (Done None) >>= (λ kind. demand (is_first_kind kind))) ≡ []
+    last true = refl
+    last false = refl
 
 -- ---- the superblock
 
@@ -227,44 +236,39 @@ visits_files_below image size superblock root entries is listing named =
 
 -- ---- the files of an image
 
-pub run_first_files : (image : List ℕ) (size : ℕ) (superblock : Superblock) → is_first_length size ≡ true → is_first_kind (fitting_kind (probes_of image)) ≡ true
+pub run_first_files : (image : List ℕ) (size : ℕ) (superblock : Superblock) → is_first_length size ≡ true → run image first_kind ≡ Ok tt
     → run image first_superblock ≡ Ok superblock → run image (first_files size) ≡ run image (files_below size superblock)
 unfolding first_files
 run_first_files image size superblock long kind is =
     run_check_true image (is_first_length size) NotFirstForm _ long
-    ∙ run_bind_ok image kind_of _ (fitting_kind (probes_of image)) (run_kind FirstFault image)
-    ∙ run_check_true image (is_first_kind (fitting_kind (probes_of image))) NotFirstForm _ kind
+    ∙ run_bind_ok image first_kind _ tt kind
     ∙ run_bind_ok image first_superblock _ superblock is
 
 pub run_first_files_length : (image : List ℕ) (size : ℕ) → is_first_length size ≡ false → run image (first_files size) ≡ Err NotFirstForm
 unfolding first_files
 run_first_files_length image size bad = run_check_false image (is_first_length size) NotFirstForm _ bad
 
-pub run_first_files_kind : (image : List ℕ) (size : ℕ) → is_first_length size ≡ true → is_first_kind (fitting_kind (probes_of image)) ≡ false → run image (first_files size) ≡ Err NotFirstForm
+pub run_first_files_kind : (image : List ℕ) (size : ℕ) → is_first_length size ≡ true → run image first_kind ≡ Err NotFirstForm → run image (first_files size) ≡ Err NotFirstForm
 unfolding first_files
 run_first_files_kind image size long bad =
-    run_check_true image (is_first_length size) NotFirstForm _ long
-    ∙ run_bind_ok image kind_of _ (fitting_kind (probes_of image)) (run_kind FirstFault image)
-    ∙ run_check_false image (is_first_kind (fitting_kind (probes_of image))) NotFirstForm _ bad
+    run_check_true image (is_first_length size) NotFirstForm _ long ∙ run_bind_err image first_kind _ NotFirstForm bad
 
-pub run_first_files_no_superblock : (image : List ℕ) (size : ℕ) → is_first_length size ≡ true → is_first_kind (fitting_kind (probes_of image)) ≡ true
+pub run_first_files_no_superblock : (image : List ℕ) (size : ℕ) → is_first_length size ≡ true → run image first_kind ≡ Ok tt
     → run image first_superblock ≡ Err NotFirstForm → run image (first_files size) ≡ Err NotFirstForm
 unfolding first_files
 run_first_files_no_superblock image size long kind is =
     run_check_true image (is_first_length size) NotFirstForm _ long
-    ∙ run_bind_ok image kind_of _ (fitting_kind (probes_of image)) (run_kind FirstFault image)
-    ∙ run_check_true image (is_first_kind (fitting_kind (probes_of image))) NotFirstForm _ kind
+    ∙ run_bind_ok image first_kind _ tt kind
     ∙ run_bind_err image first_superblock _ NotFirstForm is
 
-pub visits_first_files : (image : List ℕ) (size : ℕ) (superblock : Superblock) → is_first_length size ≡ true → is_first_kind (fitting_kind (probes_of image)) ≡ true
+pub visits_first_files : (image : List ℕ) (size : ℕ) (superblock : Superblock) → is_first_length size ≡ true → run image first_kind ≡ Ok tt
     → run image first_superblock ≡ Ok superblock
     → visits image (first_files size) ≡ probe_places ++ (record { at = 65536; len = 1376 } ∷ visits image (files_below size superblock))
 unfolding first_files
 visits_first_files image size superblock long kind is =
     visits_check_true image (is_first_length size) NotFirstForm _ long
-    ∙ visits_bind_ok image kind_of _ (fitting_kind (probes_of image)) (run_kind FirstFault image)
-    ∙ ap (λ ranges. ranges ++ visits image (check (is_first_kind (fitting_kind (probes_of image))) NotFirstForm >>= (λ x. first_superblock >>= (λ found. files_below size found)))) (visits_kind FirstFault image)
+    ∙ visits_bind_ok image first_kind _ tt kind
+    ∙ ap (λ ranges. ranges ++ visits image (first_superblock >>= (λ found. files_below size found))) (visits_first_kind image kind)
     ∙ ap (λ ranges. probe_places ++ ranges)
-    (visits_check_true image (is_first_kind (fitting_kind (probes_of image))) NotFirstForm _ kind
-    ∙ visits_bind_ok image first_superblock _ superblock is
+    (visits_bind_ok image first_superblock _ superblock is
     ∙ ap (λ ranges. ranges ++ visits image (files_below size superblock)) (visits_first_superblock image))
