@@ -1,4 +1,4 @@
-//! How stored names, words and texts are printed, with laws of it on functions that do nothing.
+//! How stored names, words and texts are printed, with laws of it on functions that do nothing; and hexadecimal digits.
 #![tactic(auto)]
 
 ghost use Rattle.std.specs.Prelude.{◌≡◌, ◌<◌, ◌≤◌, ◌^◌, ◌++◌, [], ◌∷◌, false, ℕ, List, All, encode_utf8};
@@ -6,7 +6,22 @@ ghost use Rattle.std.specs.Char.{IsScalar};
 ghost use Rattle.std.specs.Char.Escape.{encode_utf16};
 ghost use Rattle.std.specs.Str.{StartsWithNoChar};
 ghost use Rattle.name_defs.specs.Items.{Character, Byte, Surrogate, begins_pair, byte_items, unit_items};
+ghost use Rattle.name_defs.specs.Spelling.{hex_digit};
 ghost use Rattle.name_defs.specs.Texts.{IsShown, IsShownInName, bytes_text, units_text, word_text};
+
+/// The upper-case hexadecimal digit of a number.
+#[tactic(auto, unfolding(crate::specs::Spelling::hex_digit))]
+pub fn hex_digit(value: u8) -> u8
+    requires { value < 16 }
+    ensures digit { result ≡ hex_digit value }
+    ensures ascii { result < 128 }
+{
+    if value < 10 {
+        b'0' + value
+    } else {
+        b'A' + (value - 10)
+    }
+}
 
 /// Names of bytes that print as one text are one name.
 #[tactic(auto, using(crate::specs::OneSpelling::one_spelling_of_bytes))]

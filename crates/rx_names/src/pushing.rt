@@ -1,9 +1,10 @@
 //! Appending the escapes of what doesn't print as it is.
 ghost use Rattle.std.specs.Prelude.{◌≡◌, ◌<◌, ◌++◌, OnOk, string_bytes};
 ghost use Rattle.std.specs.Str.{encode_utf8_all};
-ghost use Rattle.name_defs.specs.Spelling.{hex_digit, byte_escape, unit_escape};
+ghost use Rattle.name_defs.specs.Spelling.{byte_escape, unit_escape};
 
 use crate::NoMemory;
+use name_defs::hex_digit;
 
 /// Appends the characters that have these bytes as their numbers.
 fn push_ascii(text: &mut String, bytes: &[u8]) -> Result<(), NoMemory>
@@ -15,27 +16,12 @@ fn push_ascii(text: &mut String, bytes: &[u8]) -> Result<(), NoMemory>
     Ok(())
 }
 
-/// The upper-case hexadecimal digit of a number.
-#[tactic(auto, unfolding(name_defs::specs::Spelling::hex_digit))]
-fn hex_digit(n: u16) -> u8
-    requires { n < 16 }
-    ensures { result ≡ hex_digit n }
-{
-    let digit = n as u8;
-    if digit < 10 {
-        b'0' + digit
-    } else {
-        b'A' + (digit - 10)
-    }
-}
-
 /// Appends a byte as `\xHH`.
 #[tactic(auto, unfolding(name_defs::specs::Spelling::byte_escape))]
 pub(crate) fn push_byte_escape(text: &mut String, byte: u8) -> Result<(), NoMemory>
     ensures { OnOk result (string_bytes text.new ≡ string_bytes text.old ++ encode_utf8_all (byte_escape byte)) }
 {
-    let n = u16::from(byte);
-    let escape = [b'\\', b'x', hex_digit(n / 16), hex_digit(n % 16)];
+    let escape = [b'\\', b'x', hex_digit(byte / 16), hex_digit(byte % 16)];
     push_ascii(text, &escape)
 }
 
@@ -47,10 +33,10 @@ pub(crate) fn push_unit_escape(text: &mut String, unit: u16) -> Result<(), NoMem
     let escape = [
         b'\\',
         b'u',
-        hex_digit(unit / 4096),
-        hex_digit(unit / 256 % 16),
-        hex_digit(unit / 16 % 16),
-        hex_digit(unit % 16),
+        hex_digit((unit / 4096) as u8),
+        hex_digit((unit / 256 % 16) as u8),
+        hex_digit((unit / 16 % 16) as u8),
+        hex_digit((unit % 16) as u8),
     ];
     push_ascii(text, &escape)
 }

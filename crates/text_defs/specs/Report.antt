@@ -1,6 +1,7 @@
 -- The text of a report.
-use Rattle.std.specs.Prelude.{ℕ, ◌+◌, ◌/◌, ◌%◌, if◌then◌else◌, nat_lt, codes, decimal, sum_by, List, [], ◌∷◌, ◌++◌, length}
+use Rattle.std.specs.Prelude.{ℕ, ◌/◌, ◌%◌, codes, decimal, sum_by, List, [], ◌∷◌, ◌++◌, length}
 use Rattle.std.specs.List.{flat_map}
+use Rattle.name_defs.specs.Spelling.{hex_digit}
 use Rattle.range_defs.specs.declared.Claim.{Claim}
 use Rattle.rx_ranges.specs.declared.plan.Plan.{Plan}
 use Rattle.rx_ranges.specs.declared.plan.Listed.{Listed}
@@ -14,10 +15,6 @@ unfoldable pub state_word : ReportState → List ℕ
 state_word Planned = codes "planned"
 state_word Pending = codes "pending"
 state_word Done = codes "done"
-
--- an upper-case hexadecimal digit
-abbrev pub hex_digit : ℕ → ℕ
-hex_digit value = if nat_lt value 10 then 48 + value else 55 + value
 
 -- a byte in two hexadecimal digits behind 0x
 unfoldable pub hex_text : ℕ → List ℕ

@@ -2,7 +2,7 @@ use Rattle.std.proofs.Common.{◌++◌, ◌∷◌, [], ◌∙◌, ap, sym, appen
 use Rattle.text_defs.specs.Report.{listed_head}
 use Rattle.disk_defs.specs.Stream.{taken_with}
 use Rattle.disk_defs.specs.StreamLaws.{took_prefix-within, took_prefix-last, taken_with-append, on_err}
-use Rattle.redact_cmd.proofs.report.write_listed.Goals as goal
+use Rattle.rx_report.proofs.write_listed.Goals as goal
 
 pub returns-in_err-write_all-2-clause-prefix : goal.returns-in_err-write_all-2-clause-prefix
 returns-in_err-write_all-2-clause-prefix g c =

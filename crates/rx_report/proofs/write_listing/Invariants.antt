@@ -2,7 +2,7 @@ use Rattle.std.proofs.Common.{◌≡◌, take}
 use Rattle.std.specs.List.{flat_map}
 use Rattle.disk_defs.specs.Stream.{taken_with}
 use Rattle.text_defs.specs.Report.{listed_line}
-use Rattle.redact_cmd.proofs.report.write_listing.Given as goal
+use Rattle.rx_report.proofs.write_listing.Given as goal
 
 -- the lines so far were taken
 abbrev pub invariant-loop-listed : goal.invariant-loop-listed
