@@ -1,7 +1,7 @@
 -- The disk: two areas, an image and a journal.
 use Rattle.std.specs.Prelude.{◌≡◌, ℕ, Option, IfSome, List, length}
 use Rattle.std.specs.Option.{option_map}
-use Rattle.image_defs.specs.Bytes.{part}
+use Rattle.bytes_defs.specs.Bytes.{part}
 use Rattle.disk_defs.specs.declared.Area.{Area}
 use Rattle.disk_defs.specs.declared.Area.TheVariants.{Image, Journal}
 

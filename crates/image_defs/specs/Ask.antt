@@ -2,7 +2,7 @@
 -- or it looks at a range of the image and goes on with the bytes that stand there.
 use Rattle.std.specs.Prelude.{ℕ, Bool, true, false, Result, Ok, Err, List, [], ◌∷◌}
 use Rattle.range_defs.specs.declared.Range.{Range}
-use Rattle.image_defs.specs.Bytes.{part}
+use Rattle.bytes_defs.specs.Bytes.{part}
 
 pub data Ask (E X : Type 0) : Type 0 where
   Done : X → Ask E X

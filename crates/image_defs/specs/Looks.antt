@@ -4,7 +4,7 @@ use Rattle.std.specs.List.{All}
 use Rattle.std.proofs.Common.{ap, sym, ◌∙◌, subst, ◌⊎◌, inl, inr}
 use Rattle.std.proofs.lemmas.List.Elements.{All-head, All-tail, All-cons, All-nil, All-same, All-append, All-weaker}
 use Rattle.range_defs.specs.declared.Range.{Range}
-use Rattle.image_defs.specs.Bytes.{part}
+use Rattle.bytes_defs.specs.Bytes.{part}
 use Rattle.image_defs.specs.Ask.{Ask, Done, Stop, Look, run, visits, ◌>>=◌, check, given, each}
 use Rattle.image_defs.specs.Runs.{run_bind, run_next, visits_bind_ok, in_front_of, each_result, run_each}
 

@@ -2,7 +2,7 @@
 use Rattle.std.specs.Prelude.{◌≡◌, ℕ, Bool, true, false, Result, Ok, Err, List, [], ◌∷◌, ◌++◌, refl}
 use Rattle.std.proofs.Common.{ap, ◌∙◌}
 use Rattle.range_defs.specs.declared.Range.{Range}
-use Rattle.image_defs.specs.Bytes.{part}
+use Rattle.bytes_defs.specs.Bytes.{part}
 use Rattle.image_defs.specs.Ask.{Ask, Done, Stop, Look, run, visits, ◌>>=◌, look, check, given, each}
 
 -- what the next program gives after a first result: a fault stays, and a value goes on

@@ -1,6 +1,4 @@
 //! What an image says, as programs that ask for its bytes.
 #![tactic(auto)]
 
-pub mod big;
 pub mod laws;
-pub mod little;

@@ -2,7 +2,7 @@
 use Rattle.std.proofs.Common.{◌≡◌, ℕ, true, false, Option, Some, None, IfSome, Result, Ok, Err, List, [], ◌∷◌, ap, sym, subst, ◌∙◌}
 use Rattle.std.proofs.lemmas.Bool.{false≢true}
 use Rattle.std.specs.Result.{IsErr, IsErrAnd}
-use Rattle.image_defs.specs.Bytes.{part}
+use Rattle.bytes_defs.specs.Bytes.{part}
 use Rattle.image_defs.specs.Ask.{run}
 use Rattle.ufs_defs.specs.Superblock.{superblock_of}
 use Rattle.ufs_defs.specs.Inode.{inode_place, inode_of}

@@ -4,13 +4,14 @@
 ghost use Rattle.std.specs.Prelude.{◌≡◌, ◌+◌, ◌<◌, ◌≤◌, ◌↔◌, length, slice_index, IsSome, IfSome};
 ghost use Rattle.std.specs.Int.{w32, w64};
 ghost use Rattle.std.specs.Option.{SomeIff};
-ghost use Rattle.image_defs.specs.Bytes.{part};
-ghost use Rattle.image_defs.specs.Numbers.{little_at, little_signed_at, big_at};
+ghost use Rattle.bytes_defs.specs.Bytes.{part};
+ghost use Rattle.bytes_defs.specs.Numbers.{little_at, little_signed_at, big_at};
 
 #[cfg(test)]
 mod tests;
 
-use byteorder::{BigEndian, ByteOrder, LittleEndian};
+use bytes_defs::field::{i32_at, i64_at, u16_at, u32_at, u64_at};
+use bytes_defs::order::Order::{Big, Little};
 use std::marker::Model;
 
 /// A slice of bytes whose fields are read at places. It lends the slice and copies nothing.
@@ -36,10 +37,11 @@ impl<'a> View<'a> {
     }
 
     /// The `len` bytes at a place; None where they pass the end.
-    #[tactic(auto, unfolding(image_defs::specs::Bytes::part))]
+    #[tactic(auto, unfolding(bytes_defs::specs::Bytes::part))]
     pub fn part(&self, at: usize, len: usize) -> Option<&'a [u8]>
         ensures within { IsSome result ↔ (at + len ≤ length self.now) }
         ensures bytes { IfSome result (λ lent. lent.now ≡ part self.now at len) }
+        ensures sized { IfSome result (λ lent. length lent.now ≡ len) }
     {
         self.bytes.get(at..)?.get(..len)
     }
@@ -52,66 +54,66 @@ impl<'a> View<'a> {
     }
 
     /// The `u16` at a place, the lowest byte first; None where it passes the end.
-    #[tactic(auto, using(crate::proofs::Fields::lent_reads), unfolding(image_defs::specs::Bytes::part))]
+    #[tactic(auto, using(bytes_defs::specs::NumberLaws::own_fields))]
     pub fn u16_le(&self, at: usize) -> Option<u16>
         ensures { SomeIff result (at + 2 ≤ length self.now) (little_at 2 self.now at) }
     {
-        Some(LittleEndian::read_u16(self.part(at, 2)?))
+        Some(u16_at(Little, self.part(at, 2)?, 0))
     }
 
     /// The `u32` at a place, the lowest byte first; None where it passes the end.
-    #[tactic(auto, using(crate::proofs::Fields::lent_reads), unfolding(image_defs::specs::Bytes::part))]
+    #[tactic(auto, using(bytes_defs::specs::NumberLaws::own_fields))]
     pub fn u32_le(&self, at: usize) -> Option<u32>
         ensures { SomeIff result (at + 4 ≤ length self.now) (little_at 4 self.now at) }
     {
-        Some(LittleEndian::read_u32(self.part(at, 4)?))
+        Some(u32_at(Little, self.part(at, 4)?, 0))
     }
 
     /// The `u64` at a place, the lowest byte first; None where it passes the end.
-    #[tactic(auto, using(crate::proofs::Fields::lent_reads), unfolding(image_defs::specs::Bytes::part))]
+    #[tactic(auto, using(bytes_defs::specs::NumberLaws::own_fields))]
     pub fn u64_le(&self, at: usize) -> Option<u64>
         ensures { SomeIff result (at + 8 ≤ length self.now) (little_at 8 self.now at) }
     {
-        Some(LittleEndian::read_u64(self.part(at, 8)?))
+        Some(u64_at(Little, self.part(at, 8)?, 0))
     }
 
     /// The `i32` at a place, the lowest byte first; None where it passes the end.
-    #[tactic(auto, using(crate::proofs::Fields::lent_reads), unfolding(image_defs::specs::Bytes::part))]
+    #[tactic(auto, using(bytes_defs::specs::NumberLaws::own_fields))]
     pub fn i32_le(&self, at: usize) -> Option<i32>
         ensures { SomeIff result (at + 4 ≤ length self.now) (little_signed_at w32 self.now at) }
     {
-        Some(LittleEndian::read_i32(self.part(at, 4)?))
+        Some(i32_at(Little, self.part(at, 4)?, 0))
     }
 
     /// The `i64` at a place, the lowest byte first; None where it passes the end.
-    #[tactic(auto, using(crate::proofs::Fields::lent_reads), unfolding(image_defs::specs::Bytes::part))]
+    #[tactic(auto, using(bytes_defs::specs::NumberLaws::own_fields))]
     pub fn i64_le(&self, at: usize) -> Option<i64>
         ensures { SomeIff result (at + 8 ≤ length self.now) (little_signed_at w64 self.now at) }
     {
-        Some(LittleEndian::read_i64(self.part(at, 8)?))
+        Some(i64_at(Little, self.part(at, 8)?, 0))
     }
 
     /// The `u16` at a place, the highest byte first; None where it passes the end.
-    #[tactic(auto, using(crate::proofs::Fields::lent_reads), unfolding(image_defs::specs::Bytes::part))]
+    #[tactic(auto, using(bytes_defs::specs::NumberLaws::own_fields))]
     pub fn u16_be(&self, at: usize) -> Option<u16>
         ensures { SomeIff result (at + 2 ≤ length self.now) (big_at 2 self.now at) }
     {
-        Some(BigEndian::read_u16(self.part(at, 2)?))
+        Some(u16_at(Big, self.part(at, 2)?, 0))
     }
 
     /// The `u32` at a place, the highest byte first; None where it passes the end.
-    #[tactic(auto, using(crate::proofs::Fields::lent_reads), unfolding(image_defs::specs::Bytes::part))]
+    #[tactic(auto, using(bytes_defs::specs::NumberLaws::own_fields))]
     pub fn u32_be(&self, at: usize) -> Option<u32>
         ensures { SomeIff result (at + 4 ≤ length self.now) (big_at 4 self.now at) }
     {
-        Some(BigEndian::read_u32(self.part(at, 4)?))
+        Some(u32_at(Big, self.part(at, 4)?, 0))
     }
 
     /// The `u64` at a place, the highest byte first; None where it passes the end.
-    #[tactic(auto, using(crate::proofs::Fields::lent_reads), unfolding(image_defs::specs::Bytes::part))]
+    #[tactic(auto, using(bytes_defs::specs::NumberLaws::own_fields))]
     pub fn u64_be(&self, at: usize) -> Option<u64>
         ensures { SomeIff result (at + 8 ≤ length self.now) (big_at 8 self.now at) }
     {
-        Some(BigEndian::read_u64(self.part(at, 8)?))
+        Some(u64_at(Big, self.part(at, 8)?, 0))
     }
 }

@@ -3,7 +3,7 @@ ghost use Rattle.std.specs.Prelude.{◌≡◌, ◌+◌, ◌≤◌, length, vec_l
 ghost use Rattle.disk_defs.specs.Disk.{size_of, ReadsFrom};
 ghost use Rattle.disk_defs.specs.Count.{IsCountedIn, all_faults, one_more, faults_after_in};
 ghost use Rattle.disk_defs.specs.Memory.{store_holding, state_in_memory, after_call};
-ghost use Rattle.image_defs.specs.Bytes.{part};
+ghost use Rattle.bytes_defs.specs.Bytes.{part};
 
 use crate::NoMemory;
 use crate::fault_counts::FaultCounts;
@@ -110,7 +110,7 @@ impl MemStore {
 }
 
 /// Copies the bytes from a place on.
-#[tactic(auto, unfolding(image_defs::specs::Bytes::part))]
+#[tactic(auto, unfolding(bytes_defs::specs::Bytes::part))]
 fn copy_from(bytes: &[u8], at: u64, buf: &mut [u8])
     requires { at + length buf.old ≤ length bytes.now }
     ensures { buf.new ≡ part bytes.now at (length buf.new) }

@@ -1,10 +1,10 @@
 -- Directories: FreeBSD's sys/ufs/ufs/dir.h, struct direct. A directory's content is a chain of entries, and none of
 -- them passes the 512 bytes in which it begins.
-use Rattle.std.specs.Prelude.{ℕ, zero, suc, ◌+◌, ◌-◌, ◌%◌, Bool, not, ◌&&◌, ◌||◌, ◌==◌, nat_lt, nat_le, if◌then◌else◌, Result, Ok, Err, List, [], ◌∷◌, length}
+use Rattle.std.specs.Prelude.{ℕ, zero, suc, ◌+◌, ◌-◌, ◌%◌, Bool, not, ◌&&◌, ◌||◌, ◌==◌, nat_lt, nat_le, if◌then◌else◌, Result, Ok, Err, List, [], ◌∷◌, length, slice_index}
 use Rattle.std.specs.List.{filter}
 use Rattle.std.specs.Str.{bytes_eq}
-use Rattle.image_defs.specs.Bytes.{part}
-use Rattle.image_defs.specs.Numbers.{little_at}
+use Rattle.bytes_defs.specs.Bytes.{part}
+use Rattle.bytes_defs.specs.Numbers.{little_at}
 use Rattle.image_defs.specs.Runs.{with_value}
 
 -- an entry: its place in the content, the inode that it names, its length, and its name
@@ -40,7 +40,7 @@ abbrev pub record_length : List ℕ → ℕ → ℕ
 record_length content at = little_at 2 content (at + 4)
 
 abbrev pub name_length : List ℕ → ℕ → ℕ
-name_length content at = little_at 1 content (at + 7)
+name_length content at = slice_index content (at + 7)
 
 abbrev pub named_inode : List ℕ → ℕ → ℕ
 named_inode content at = little_at 4 content at

@@ -2,7 +2,7 @@
 -- ino_to_fsbo of sys/ufs/ffs/fs.h.
 use Rattle.std.specs.Prelude.{ℕ, ◌+◌, ◌*◌, ◌/◌, ◌%◌, Bool, not, ◌==◌, bit_and, List, [], ◌∷◌}
 use Rattle.std.specs.Int.{w64}
-use Rattle.image_defs.specs.Numbers.{little_at, little_signed_at}
+use Rattle.bytes_defs.specs.Numbers.{little_at, little_signed_at}
 use Rattle.ufs_defs.specs.Signed.{counted}
 use Rattle.ufs_defs.specs.declared.superblock.Superblock.{Superblock}
 use Rattle.ufs_defs.specs.declared.inode.Inode.{Inode}

@@ -2,7 +2,7 @@
 use Rattle.std.specs.Prelude.{ℕ, ◌*◌, ◌/◌, ◌%◌, pos, int_lt, Bool, not, ◌&&◌, ◌==◌, nat_le, nat_lt, if◌then◌else◌, Option, Some, None, List, [], ◌∷◌}
 use Rattle.std.specs.List.{list_any}
 use Rattle.std.specs.Int.{w32, is_power_of_two}
-use Rattle.image_defs.specs.Numbers.{little_at, little_signed_at}
+use Rattle.bytes_defs.specs.Numbers.{little_at, little_signed_at}
 use Rattle.ufs_defs.specs.Signed.{counted}
 use Rattle.ufs_defs.specs.declared.superblock.Superblock.{Superblock}
 

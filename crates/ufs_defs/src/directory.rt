@@ -2,7 +2,8 @@
 ghost use Rattle.std.specs.Prelude.{◌≡◌, ◌+◌, ◌<◌, ◌≤◌, ◌%◌, ℕ, IfOk, IsTrue, map, length};
 ghost use Rattle.ufs_defs.specs.Directory.{entry_of, entries_of, is_entry as is_entry_by, record_length as record_length_by};
 
-use image_defs::little::{u8_at, u16_at, u32_at};
+use bytes_defs::field::{u16_at, u32_at};
+use bytes_defs::order::Order::Little;
 use std::alloc::{AllocFailed, Global};
 
 /// Whether the record at a place of a directory's content is an entry.
@@ -16,9 +17,9 @@ pub fn is_entry(content: &[u8], at: usize) -> bool
     if left < 8 {
         return false;
     }
-    let len = usize::from(u16_at(content, at + 4));
-    let name_len = usize::from(u8_at(content, at + 7));
-    let used = u32_at(content, at) > 1;
+    let len = usize::from(u16_at(Little, content, at + 4));
+    let name_len = usize::from(content[at + 7]);
+    let used = u32_at(Little, content, at) > 1;
     len >= 8 && len % 4 == 0 && len <= left && (!used || (name_len > 0 && 8 + name_len <= len))
 }
 
@@ -32,7 +33,7 @@ pub fn record_length(content: &[u8], at: usize) -> usize
     ensures some { 8 ≤ result }
     ensures ends { at + result ≤ length content.now }
 {
-    usize::from(u16_at(content, at + 4))
+    usize::from(u16_at(Little, content, at + 4))
 }
 
 /// Why a directory's entries can't be told.

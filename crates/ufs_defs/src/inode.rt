@@ -4,7 +4,8 @@ ghost use Rattle.ufs_defs.specs.Inode.{inode_of, inode_fragment as inode_fragmen
 
 use crate::signed::counted;
 use crate::superblock::Superblock;
-use image_defs::little::{i64_at, u16_at, u32_at, u64_at};
+use bytes_defs::field::{i64_at, u16_at, u32_at, u64_at};
+use bytes_defs::order::Order::Little;
 
 /// The fields of an inode that are read.
 #[derive(Clone, Copy, Debug, PartialEq, Eq)]
@@ -27,23 +28,23 @@ impl Inode {
         ensures { result ≡ inode_of bytes.now }
     {
         Inode {
-            mode: u16_at(bytes, 0),
-            size: u64_at(bytes, 16),
-            flags: u32_at(bytes, 88),
-            extsize: u32_at(bytes, 92),
+            mode: u16_at(Little, bytes, 0),
+            size: u64_at(Little, bytes, 16),
+            flags: u32_at(Little, bytes, 88),
+            extsize: u32_at(Little, bytes, 92),
             direct: [
-                i64_at(bytes, 112),
-                i64_at(bytes, 120),
-                i64_at(bytes, 128),
-                i64_at(bytes, 136),
-                i64_at(bytes, 144),
-                i64_at(bytes, 152),
-                i64_at(bytes, 160),
-                i64_at(bytes, 168),
-                i64_at(bytes, 176),
-                i64_at(bytes, 184),
-                i64_at(bytes, 192),
-                i64_at(bytes, 200),
+                i64_at(Little, bytes, 112),
+                i64_at(Little, bytes, 120),
+                i64_at(Little, bytes, 128),
+                i64_at(Little, bytes, 136),
+                i64_at(Little, bytes, 144),
+                i64_at(Little, bytes, 152),
+                i64_at(Little, bytes, 160),
+                i64_at(Little, bytes, 168),
+                i64_at(Little, bytes, 176),
+                i64_at(Little, bytes, 184),
+                i64_at(Little, bytes, 192),
+                i64_at(Little, bytes, 200),
             ],
         }
     }

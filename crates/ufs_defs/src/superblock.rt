@@ -3,7 +3,8 @@ ghost use Rattle.std.specs.Prelude.{◌≡◌, length};
 ghost use Rattle.ufs_defs.specs.Superblock.{is_block_size as is_block_size_by, is_fragment_size as is_fragment_size_by, is_fragment_count as is_fragment_count_by, is_inode_count as is_inode_count_by};
 
 use crate::signed::counted;
-use image_defs::little::{i32_at, u32_at};
+use bytes_defs::field::{i32_at, u32_at};
+use bytes_defs::order::Order::Little;
 
 /// The fields of the superblock that are read. FreeBSD's sys/ufs/ffs/fs.h names them, with `fs_` in front.
 #[derive(Clone, Copy, Debug, PartialEq, Eq)]
@@ -43,18 +44,18 @@ impl Superblock {
         ensures { result ≡ superblock_of bytes.now }
     {
         Superblock {
-            cblkno: i32_at(bytes, 12),
-            iblkno: i32_at(bytes, 16),
-            old_cgoffset: i32_at(bytes, 24),
-            old_cgmask: u32_at(bytes, 28),
-            ncg: u32_at(bytes, 44),
-            bsize: i32_at(bytes, 48),
-            fsize: i32_at(bytes, 52),
-            frag: i32_at(bytes, 56),
-            nindir: u32_at(bytes, 116),
-            inopb: u32_at(bytes, 120),
-            ipg: u32_at(bytes, 184),
-            fpg: i32_at(bytes, 188),
+            cblkno: i32_at(Little, bytes, 12),
+            iblkno: i32_at(Little, bytes, 16),
+            old_cgoffset: i32_at(Little, bytes, 24),
+            old_cgmask: u32_at(Little, bytes, 28),
+            ncg: u32_at(Little, bytes, 44),
+            bsize: i32_at(Little, bytes, 48),
+            fsize: i32_at(Little, bytes, 52),
+            frag: i32_at(Little, bytes, 56),
+            nindir: u32_at(Little, bytes, 116),
+            inopb: u32_at(Little, bytes, 120),
+            ipg: u32_at(Little, bytes, 184),
+            fpg: i32_at(Little, bytes, 188),
         }
     }
 

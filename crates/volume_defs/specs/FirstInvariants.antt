@@ -6,7 +6,7 @@ use Rattle.std.proofs.Common.{sym, subst, arith}
 use Rattle.std.proofs.lemmas.Bool.{leb-true}
 use Rattle.std.proofs.lemmas.List.Elements.{All-cons, All-nil}
 use Rattle.range_defs.specs.Places.{covers}
-use Rattle.image_defs.specs.Bytes.{part}
+use Rattle.bytes_defs.specs.Bytes.{part}
 use Rattle.image_defs.specs.Ask.{Done, run, visits, each}
 use Rattle.image_defs.specs.Guard.{longest-ends}
 use Rattle.image_defs.specs.Looks.{bind_gives, check_gives}

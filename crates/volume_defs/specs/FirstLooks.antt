@@ -6,7 +6,7 @@ use Rattle.std.proofs.Common.{arith, lit≤}
 use Rattle.range_defs.specs.declared.Range.{Range}
 use Rattle.range_defs.specs.Places.{covers, IsRangeList}
 use Rattle.range_defs.specs.RangeLaws.{EndsBy}
-use Rattle.image_defs.specs.Bytes.{part}
+use Rattle.bytes_defs.specs.Bytes.{part}
 use Rattle.image_defs.specs.Ask.{Ask, Done, Look, look, visits, each, check, given, ◌>>=◌}
 use Rattle.image_defs.specs.Guard.{looked_at, list-looked_at}
 use Rattle.image_defs.specs.Looks.{LooksAt, looks_done, looks_nowhere, looks_bind, looks_check, looks_look, looks_given, looks_each}

@@ -1,9 +1,9 @@
 -- What the definitions say of small images with several files, names and blocks, worked out by hand.
 use Rattle.std.specs.Prelude.{◌++◌, ◌≡◌, List, [], ◌∷◌, slice_set, Ok, Err, refl}
 use Rattle.std.specs.Int.Count.{ones}
-use Rattle.image_defs.specs.Bytes.{part}
+use Rattle.bytes_defs.specs.Bytes.{part}
 use Rattle.image_defs.specs.Ask.{run, visits}
-use Rattle.image_defs.specs.Numbers.{little_at, little_signed_at}
+use Rattle.bytes_defs.specs.Numbers.{number_at, signed_at}
 use Rattle.rx_ranges.specs.declared.pieces.PieceKind.TheVariants.{Disk}
 use Rattle.rx_tree.specs.declared.file.FileEntry.{FileEntry}
 use Rattle.ufs_defs.specs.Superblock.{superblock_of, wrong_field, is_block_size, is_fragment_size, is_fragment_count, is_inode_count}
@@ -27,12 +27,12 @@ files_of_three =
 
 -- the three files are found
 pub run_three : run image_of_three (first_files 262144) ≡ Ok files_of_three
-unfolding image_of_three part little_at little_signed_at superblock_of wrong_field inode_place inode_of entries_from entries_within is_entry block_place pieces_within block_pieces content_pieces content_slack content_of sorted_by_order distinct kind_of kind_behind_ntfs kind_behind_hfs kind_behind_ufs1 first_kind first_files files_below first_file first_entries first_root first_inode first_superblock is_first_superblock is_first_inode has_block has_blocks is_first_root is_first_entry is_first_file is_block_size is_fragment_size is_fragment_count is_inode_count ones
+unfolding image_of_three part number_at signed_at superblock_of wrong_field inode_place inode_of entries_from entries_within is_entry block_place pieces_within block_pieces content_pieces content_slack content_of sorted_by_order distinct kind_of kind_behind_ntfs kind_behind_hfs kind_behind_ufs1 first_kind first_files files_below first_file first_entries first_root first_inode first_superblock is_first_superblock is_first_inode has_block has_blocks is_first_root is_first_entry is_first_file is_block_size is_fragment_size is_fragment_count is_inode_count ones
 run_three = refl
 
 -- each inode is looked at once
 pub visits_three : visits image_of_three (first_files 262144) ≡ visits_of_t ++ (record { at = 74752; len = 256 } ∷ record { at = 75008; len = 256 } ∷ [])
-unfolding image_of_three part little_at little_signed_at superblock_of wrong_field inode_place inode_of entries_from entries_within is_entry block_place pieces_within block_pieces content_pieces content_slack content_of sorted_by_order distinct kind_of kind_behind_ntfs kind_behind_hfs kind_behind_ufs1 first_kind first_files files_below first_file first_entries first_root first_inode first_superblock is_first_superblock is_first_inode has_block has_blocks is_first_root is_first_entry is_first_file is_block_size is_fragment_size is_fragment_count is_inode_count ones
+unfolding image_of_three part number_at signed_at superblock_of wrong_field inode_place inode_of entries_from entries_within is_entry block_place pieces_within block_pieces content_pieces content_slack content_of sorted_by_order distinct kind_of kind_behind_ntfs kind_behind_hfs kind_behind_ufs1 first_kind first_files files_below first_file first_entries first_root first_inode first_superblock is_first_superblock is_first_inode has_block has_blocks is_first_root is_first_entry is_first_file is_block_size is_fragment_size is_fragment_count is_inode_count ones
 visits_three = refl
 
 -- one file with two names, whatever the order of its entries
@@ -44,17 +44,17 @@ files_of_two_names =
 
 -- it is found once
 pub run_two_names : run image_of_two_names (first_files 262144) ≡ Ok files_of_two_names
-unfolding image_of_two_names part little_at little_signed_at superblock_of wrong_field inode_place inode_of entries_from entries_within is_entry block_place pieces_within block_pieces content_pieces content_slack content_of sorted_by_order distinct kind_of kind_behind_ntfs kind_behind_hfs kind_behind_ufs1 first_kind first_files files_below first_file first_entries first_root first_inode first_superblock is_first_superblock is_first_inode has_block has_blocks is_first_root is_first_entry is_first_file is_block_size is_fragment_size is_fragment_count is_inode_count ones
+unfolding image_of_two_names part number_at signed_at superblock_of wrong_field inode_place inode_of entries_from entries_within is_entry block_place pieces_within block_pieces content_pieces content_slack content_of sorted_by_order distinct kind_of kind_behind_ntfs kind_behind_hfs kind_behind_ufs1 first_kind first_files files_below first_file first_entries first_root first_inode first_superblock is_first_superblock is_first_inode has_block has_blocks is_first_root is_first_entry is_first_file is_block_size is_fragment_size is_fragment_count is_inode_count ones
 run_two_names = refl
 
 -- its names are sorted
 pub run_two_names_swapped : run image_of_two_names_swapped (first_files 262144) ≡ Ok files_of_two_names
-unfolding image_of_two_names_swapped part little_at little_signed_at superblock_of wrong_field inode_place inode_of entries_from entries_within is_entry block_place pieces_within block_pieces content_pieces content_slack content_of sorted_by_order distinct kind_of kind_behind_ntfs kind_behind_hfs kind_behind_ufs1 first_kind first_files files_below first_file first_entries first_root first_inode first_superblock is_first_superblock is_first_inode has_block has_blocks is_first_root is_first_entry is_first_file is_block_size is_fragment_size is_fragment_count is_inode_count ones
+unfolding image_of_two_names_swapped part number_at signed_at superblock_of wrong_field inode_place inode_of entries_from entries_within is_entry block_place pieces_within block_pieces content_pieces content_slack content_of sorted_by_order distinct kind_of kind_behind_ntfs kind_behind_hfs kind_behind_ufs1 first_kind first_files files_below first_file first_entries first_root first_inode first_superblock is_first_superblock is_first_inode has_block has_blocks is_first_root is_first_entry is_first_file is_block_size is_fragment_size is_fragment_count is_inode_count ones
 run_two_names_swapped = refl
 
 -- and its inode is looked at once
 pub visits_two_names : visits image_of_two_names (first_files 262144) ≡ visits_of_t
-unfolding image_of_two_names part little_at little_signed_at superblock_of wrong_field inode_place inode_of entries_from entries_within is_entry block_place pieces_within block_pieces content_pieces content_slack content_of sorted_by_order distinct kind_of kind_behind_ntfs kind_behind_hfs kind_behind_ufs1 first_kind first_files files_below first_file first_entries first_root first_inode first_superblock is_first_superblock is_first_inode has_block has_blocks is_first_root is_first_entry is_first_file is_block_size is_fragment_size is_fragment_count is_inode_count ones
+unfolding image_of_two_names part number_at signed_at superblock_of wrong_field inode_place inode_of entries_from entries_within is_entry block_place pieces_within block_pieces content_pieces content_slack content_of sorted_by_order distinct kind_of kind_behind_ntfs kind_behind_hfs kind_behind_ufs1 first_kind first_files files_below first_file first_entries first_root first_inode first_superblock is_first_superblock is_first_inode has_block has_blocks is_first_root is_first_entry is_first_file is_block_size is_fragment_size is_fragment_count is_inode_count ones
 visits_two_names = refl
 
 -- two blocks side by side are one piece, and the third another
@@ -66,35 +66,35 @@ files_of_blocks =
 
 -- a file of three blocks
 pub run_blocks : run image_of_blocks (first_files 262144) ≡ Ok files_of_blocks
-unfolding image_of_blocks part little_at little_signed_at superblock_of wrong_field inode_place inode_of entries_from entries_within is_entry block_place pieces_within block_pieces content_pieces content_slack content_of sorted_by_order distinct kind_of kind_behind_ntfs kind_behind_hfs kind_behind_ufs1 first_kind first_files files_below first_file first_entries first_root first_inode first_superblock is_first_superblock is_first_inode has_block has_blocks is_first_root is_first_entry is_first_file is_block_size is_fragment_size is_fragment_count is_inode_count ones
+unfolding image_of_blocks part number_at signed_at superblock_of wrong_field inode_place inode_of entries_from entries_within is_entry block_place pieces_within block_pieces content_pieces content_slack content_of sorted_by_order distinct kind_of kind_behind_ntfs kind_behind_hfs kind_behind_ufs1 first_kind first_files files_below first_file first_entries first_root first_inode first_superblock is_first_superblock is_first_inode has_block has_blocks is_first_root is_first_entry is_first_file is_block_size is_fragment_size is_fragment_count is_inode_count ones
 run_blocks = refl
 
 -- where the pointer of its third block is 0, the image has not the first form
 pub run_hole : run (slice_set image_of_blocks 74624 0) (first_files 262144) ≡ Err NotFirstForm
-unfolding image_of_blocks part little_at little_signed_at superblock_of wrong_field inode_place inode_of entries_from entries_within is_entry block_place pieces_within block_pieces content_pieces content_slack content_of sorted_by_order distinct kind_of kind_behind_ntfs kind_behind_hfs kind_behind_ufs1 first_kind first_files files_below first_file first_entries first_root first_inode first_superblock is_first_superblock is_first_inode has_block has_blocks is_first_root is_first_entry is_first_file is_block_size is_fragment_size is_fragment_count is_inode_count ones
+unfolding image_of_blocks part number_at signed_at superblock_of wrong_field inode_place inode_of entries_from entries_within is_entry block_place pieces_within block_pieces content_pieces content_slack content_of sorted_by_order distinct kind_of kind_behind_ntfs kind_behind_hfs kind_behind_ufs1 first_kind first_files files_below first_file first_entries first_root first_inode first_superblock is_first_superblock is_first_inode has_block has_blocks is_first_root is_first_entry is_first_file is_block_size is_fragment_size is_fragment_count is_inode_count ones
 run_hole = refl
 
 -- nor where that block passes the end of the image
 pub run_past_end : run (slice_set image_of_blocks 74624 64) (first_files 262144) ≡ Err NotFirstForm
-unfolding image_of_blocks part little_at little_signed_at superblock_of wrong_field inode_place inode_of entries_from entries_within is_entry block_place pieces_within block_pieces content_pieces content_slack content_of sorted_by_order distinct kind_of kind_behind_ntfs kind_behind_hfs kind_behind_ufs1 first_kind first_files files_below first_file first_entries first_root first_inode first_superblock is_first_superblock is_first_inode has_block has_blocks is_first_root is_first_entry is_first_file is_block_size is_fragment_size is_fragment_count is_inode_count ones
+unfolding image_of_blocks part number_at signed_at superblock_of wrong_field inode_place inode_of entries_from entries_within is_entry block_place pieces_within block_pieces content_pieces content_slack content_of sorted_by_order distinct kind_of kind_behind_ntfs kind_behind_hfs kind_behind_ufs1 first_kind first_files files_below first_file first_entries first_root first_inode first_superblock is_first_superblock is_first_inode has_block has_blocks is_first_root is_first_entry is_first_file is_block_size is_fragment_size is_fragment_count is_inode_count ones
 run_past_end = refl
 
 -- a content of whole blocks has no slack
 pub run_whole_blocks : run (slice_set image_of_blocks 74512 0) (first_files 262144) ≡ Ok (found_root ∷ found_file 3 ((47 ∷ 97 ∷ []) ∷ []) 8192 (record { from = 0; len = 8192; kind = Disk; at = 86016 } ∷ []) [] ∷ [])
-unfolding image_of_blocks part little_at little_signed_at superblock_of wrong_field inode_place inode_of entries_from entries_within is_entry block_place pieces_within block_pieces content_pieces content_slack content_of sorted_by_order distinct kind_of kind_behind_ntfs kind_behind_hfs kind_behind_ufs1 first_kind first_files files_below first_file first_entries first_root first_inode first_superblock is_first_superblock is_first_inode has_block has_blocks is_first_root is_first_entry is_first_file is_block_size is_fragment_size is_fragment_count is_inode_count ones
+unfolding image_of_blocks part number_at signed_at superblock_of wrong_field inode_place inode_of entries_from entries_within is_entry block_place pieces_within block_pieces content_pieces content_slack content_of sorted_by_order distinct kind_of kind_behind_ntfs kind_behind_hfs kind_behind_ufs1 first_kind first_files files_below first_file first_entries first_root first_inode first_superblock is_first_superblock is_first_inode has_block has_blocks is_first_root is_first_entry is_first_file is_block_size is_fragment_size is_fragment_count is_inode_count ones
 run_whole_blocks = refl
 
 -- an empty file has no piece, and its pointers count for nothing
 pub run_empty : run (slice_set (slice_set (slice_set image_of_blocks 74512 0) 74513 0) 74608 0) (first_files 262144) ≡ Ok (found_root ∷ found_file 3 ((47 ∷ 97 ∷ []) ∷ []) 0 [] [] ∷ [])
-unfolding image_of_blocks part little_at little_signed_at superblock_of wrong_field inode_place inode_of entries_from entries_within is_entry block_place pieces_within block_pieces content_pieces content_slack content_of sorted_by_order distinct kind_of kind_behind_ntfs kind_behind_hfs kind_behind_ufs1 first_kind first_files files_below first_file first_entries first_root first_inode first_superblock is_first_superblock is_first_inode has_block has_blocks is_first_root is_first_entry is_first_file is_block_size is_fragment_size is_fragment_count is_inode_count ones
+unfolding image_of_blocks part number_at signed_at superblock_of wrong_field inode_place inode_of entries_from entries_within is_entry block_place pieces_within block_pieces content_pieces content_slack content_of sorted_by_order distinct kind_of kind_behind_ntfs kind_behind_hfs kind_behind_ufs1 first_kind first_files files_below first_file first_entries first_root first_inode first_superblock is_first_superblock is_first_inode has_block has_blocks is_first_root is_first_entry is_first_file is_block_size is_fragment_size is_fragment_count is_inode_count ones
 run_empty = refl
 
 -- a file of more than twelve blocks has not the first form
 pub run_thirteen : run (slice_set image_of_blocks 74513 192) (first_files 262144) ≡ Err NotFirstForm
-unfolding image_of_blocks part little_at little_signed_at superblock_of wrong_field inode_place inode_of entries_from entries_within is_entry block_place pieces_within block_pieces content_pieces content_slack content_of sorted_by_order distinct kind_of kind_behind_ntfs kind_behind_hfs kind_behind_ufs1 first_kind first_files files_below first_file first_entries first_root first_inode first_superblock is_first_superblock is_first_inode has_block has_blocks is_first_root is_first_entry is_first_file is_block_size is_fragment_size is_fragment_count is_inode_count ones
+unfolding image_of_blocks part number_at signed_at superblock_of wrong_field inode_place inode_of entries_from entries_within is_entry block_place pieces_within block_pieces content_pieces content_slack content_of sorted_by_order distinct kind_of kind_behind_ntfs kind_behind_hfs kind_behind_ufs1 first_kind first_files files_below first_file first_entries first_root first_inode first_superblock is_first_superblock is_first_inode has_block has_blocks is_first_root is_first_entry is_first_file is_block_size is_fragment_size is_fragment_count is_inode_count ones
 run_thirteen = refl
 
 -- a root without files is found alone
 pub run_none : run image_of_none (first_files 262144) ≡ Ok (found_root ∷ [])
-unfolding image_of_none part little_at little_signed_at superblock_of wrong_field inode_place inode_of entries_from entries_within is_entry block_place pieces_within block_pieces content_pieces content_slack content_of sorted_by_order distinct kind_of kind_behind_ntfs kind_behind_hfs kind_behind_ufs1 first_kind first_files files_below first_file first_entries first_root first_inode first_superblock is_first_superblock is_first_inode has_block has_blocks is_first_root is_first_entry is_first_file is_block_size is_fragment_size is_fragment_count is_inode_count ones
+unfolding image_of_none part number_at signed_at superblock_of wrong_field inode_place inode_of entries_from entries_within is_entry block_place pieces_within block_pieces content_pieces content_slack content_of sorted_by_order distinct kind_of kind_behind_ntfs kind_behind_hfs kind_behind_ufs1 first_kind first_files files_below first_file first_entries first_root first_inode first_superblock is_first_superblock is_first_inode has_block has_blocks is_first_root is_first_entry is_first_file is_block_size is_fragment_size is_fragment_count is_inode_count ones
 run_none = refl

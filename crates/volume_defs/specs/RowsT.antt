@@ -1,9 +1,9 @@
 -- What the definitions say of the small image, worked out by hand.
 use Rattle.std.specs.Prelude.{◌≡◌, ℕ, false, List, [], ◌∷◌, length, take, slice_set, Some, None, Ok, Err, refl}
 use Rattle.std.specs.Int.Count.{ones}
-use Rattle.image_defs.specs.Bytes.{part}
+use Rattle.bytes_defs.specs.Bytes.{part}
 use Rattle.image_defs.specs.Ask.{run, visits}
-use Rattle.image_defs.specs.Numbers.{little_at, little_signed_at}
+use Rattle.bytes_defs.specs.Numbers.{number_at, signed_at}
 use Rattle.range_defs.specs.declared.Range.{Range}
 use Rattle.rx_ranges.specs.declared.pieces.Piece.{Piece}
 use Rattle.rx_ranges.specs.declared.pieces.PieceKind.TheVariants.{Disk}
@@ -29,15 +29,15 @@ unfolding image_t kind_of kind_behind_ntfs kind_behind_hfs kind_behind_ufs1 part
 kind_t = refl
 
 superblock_t : wrong_field (superblock_of (part image_t 65536 1376)) ≡ None
-unfolding image_t part superblock_of wrong_field is_block_size is_fragment_size is_fragment_count is_inode_count little_at little_signed_at ones
+unfolding image_t part superblock_of wrong_field is_block_size is_fragment_size is_fragment_count is_inode_count number_at signed_at ones
 superblock_t = refl
 
 root_place_t : inode_place (superblock_of (part image_t 65536 1376)) 2 ≡ 74240
-unfolding image_t part superblock_of inode_place little_at little_signed_at
+unfolding image_t part superblock_of inode_place number_at signed_at
 root_place_t = refl
 
 file_place_t : inode_place (superblock_of (part image_t 65536 1376)) 3 ≡ 74496
-unfolding image_t part superblock_of inode_place little_at little_signed_at
+unfolding image_t part superblock_of inode_place number_at signed_at
 file_place_t = refl
 
 entries_t : entries_of (part image_t 81920 512) ≡ Ok (
@@ -45,7 +45,7 @@ entries_t : entries_of (part image_t 81920 512) ≡ Ok (
     ∷ record { at = 12; inode = 2; len = 12; name = 46 ∷ 46 ∷ [] }
     ∷ record { at = 24; inode = 3; len = 488; name = 97 ∷ [] }
     ∷ [])
-unfolding image_t part entries_from entries_within is_entry little_at
+unfolding image_t part entries_from entries_within is_entry number_at
 entries_t = refl
 
 -- the root, of one piece and its slack
@@ -88,7 +88,7 @@ files_t =
     ∷ []
 
 pub run_t : run image_t (first_files 262144) ≡ Ok files_t
-unfolding image_t part little_at little_signed_at superblock_of wrong_field inode_place inode_of entries_from entries_within is_entry block_place pieces_within block_pieces content_pieces content_slack content_of sorted_by_order distinct kind_of kind_behind_ntfs kind_behind_hfs kind_behind_ufs1 first_kind first_files files_below first_file first_entries first_root first_inode first_superblock is_first_superblock is_first_inode has_block has_blocks is_first_root is_first_entry is_first_file is_block_size is_fragment_size is_fragment_count is_inode_count ones
+unfolding image_t part number_at signed_at superblock_of wrong_field inode_place inode_of entries_from entries_within is_entry block_place pieces_within block_pieces content_pieces content_slack content_of sorted_by_order distinct kind_of kind_behind_ntfs kind_behind_hfs kind_behind_ufs1 first_kind first_files files_below first_file first_entries first_root first_inode first_superblock is_first_superblock is_first_inode has_block has_blocks is_first_root is_first_entry is_first_file is_block_size is_fragment_size is_fragment_count is_inode_count ones
 run_t = refl
 
 -- the bytes on which that rests
@@ -106,33 +106,33 @@ visits_of_t =
     ∷ []
 
 pub visits_t : visits image_t (first_files 262144) ≡ visits_of_t
-unfolding image_t part little_at little_signed_at superblock_of wrong_field inode_place inode_of entries_from entries_within is_entry block_place pieces_within block_pieces content_pieces content_slack content_of sorted_by_order distinct kind_of kind_behind_ntfs kind_behind_hfs kind_behind_ufs1 first_kind first_files files_below first_file first_entries first_root first_inode first_superblock is_first_superblock is_first_inode has_block has_blocks is_first_root is_first_entry is_first_file is_block_size is_fragment_size is_fragment_count is_inode_count ones
+unfolding image_t part number_at signed_at superblock_of wrong_field inode_place inode_of entries_from entries_within is_entry block_place pieces_within block_pieces content_pieces content_slack content_of sorted_by_order distinct kind_of kind_behind_ntfs kind_behind_hfs kind_behind_ufs1 first_kind first_files files_below first_file first_entries first_root first_inode first_superblock is_first_superblock is_first_inode has_block has_blocks is_first_root is_first_entry is_first_file is_block_size is_fragment_size is_fragment_count is_inode_count ones
 visits_t = refl
 
 -- without its last byte, the file's block isn't whole
 cut_block_t : run (take 90111 image_t) (first_files 90111) ≡ Err NotFirstForm
-unfolding image_t part little_at little_signed_at superblock_of wrong_field inode_place inode_of entries_from entries_within is_entry block_place pieces_within block_pieces content_pieces content_slack content_of sorted_by_order distinct kind_of kind_behind_ntfs kind_behind_hfs kind_behind_ufs1 first_kind first_files files_below first_file first_entries first_root first_inode first_superblock is_first_superblock is_first_inode has_block has_blocks is_first_root is_first_entry is_first_file is_block_size is_fragment_size is_fragment_count is_inode_count ones
+unfolding image_t part number_at signed_at superblock_of wrong_field inode_place inode_of entries_from entries_within is_entry block_place pieces_within block_pieces content_pieces content_slack content_of sorted_by_order distinct kind_of kind_behind_ntfs kind_behind_hfs kind_behind_ufs1 first_kind first_files files_below first_file first_entries first_root first_inode first_superblock is_first_superblock is_first_inode has_block has_blocks is_first_root is_first_entry is_first_file is_block_size is_fragment_size is_fragment_count is_inode_count ones
 cut_block_t = refl
 
 -- cut inside what the kind rests on, or empty
 cut_t : run (take 1000 image_t) (first_files 1000) ≡ Err NotFirstForm
-unfolding image_t part little_at little_signed_at superblock_of wrong_field inode_place inode_of entries_from entries_within is_entry block_place pieces_within block_pieces content_pieces content_slack content_of sorted_by_order distinct kind_of kind_behind_ntfs kind_behind_hfs kind_behind_ufs1 first_kind first_files files_below first_file first_entries first_root first_inode first_superblock is_first_superblock is_first_inode has_block has_blocks is_first_root is_first_entry is_first_file is_block_size is_fragment_size is_fragment_count is_inode_count ones
+unfolding image_t part number_at signed_at superblock_of wrong_field inode_place inode_of entries_from entries_within is_entry block_place pieces_within block_pieces content_pieces content_slack content_of sorted_by_order distinct kind_of kind_behind_ntfs kind_behind_hfs kind_behind_ufs1 first_kind first_files files_below first_file first_entries first_root first_inode first_superblock is_first_superblock is_first_inode has_block has_blocks is_first_root is_first_entry is_first_file is_block_size is_fragment_size is_fragment_count is_inode_count ones
 cut_t = refl
 
 empty_t : run [] (first_files 0) ≡ Err NotFirstForm
-unfolding image_t part little_at little_signed_at superblock_of wrong_field inode_place inode_of entries_from entries_within is_entry block_place pieces_within block_pieces content_pieces content_slack content_of sorted_by_order distinct kind_of kind_behind_ntfs kind_behind_hfs kind_behind_ufs1 first_kind first_files files_below first_file first_entries first_root first_inode first_superblock is_first_superblock is_first_inode has_block has_blocks is_first_root is_first_entry is_first_file is_block_size is_fragment_size is_fragment_count is_inode_count ones
+unfolding image_t part number_at signed_at superblock_of wrong_field inode_place inode_of entries_from entries_within is_entry block_place pieces_within block_pieces content_pieces content_slack content_of sorted_by_order distinct kind_of kind_behind_ntfs kind_behind_hfs kind_behind_ufs1 first_kind first_files files_below first_file first_entries first_root first_inode first_superblock is_first_superblock is_first_inode has_block has_blocks is_first_root is_first_entry is_first_file is_block_size is_fragment_size is_fragment_count is_inode_count ones
 empty_t = refl
 
 -- the first pointer of inode 3 leads to the block at the image's end
 pointer_t : run (slice_set image_t 74608 64) (first_files 262144) ≡ Err NotFirstForm
-unfolding image_t part little_at little_signed_at superblock_of wrong_field inode_place inode_of entries_from entries_within is_entry block_place pieces_within block_pieces content_pieces content_slack content_of sorted_by_order distinct kind_of kind_behind_ntfs kind_behind_hfs kind_behind_ufs1 first_kind first_files files_below first_file first_entries first_root first_inode first_superblock is_first_superblock is_first_inode has_block has_blocks is_first_root is_first_entry is_first_file is_block_size is_fragment_size is_fragment_count is_inode_count ones
+unfolding image_t part number_at signed_at superblock_of wrong_field inode_place inode_of entries_from entries_within is_entry block_place pieces_within block_pieces content_pieces content_slack content_of sorted_by_order distinct kind_of kind_behind_ntfs kind_behind_hfs kind_behind_ufs1 first_kind first_files files_below first_file first_entries first_root first_inode first_superblock is_first_superblock is_first_inode has_block has_blocks is_first_root is_first_entry is_first_file is_block_size is_fragment_size is_fragment_count is_inode_count ones
 pointer_t = refl
 
 -- the superblock tells of blocks without a byte
 block_size_t : run (slice_set image_t 65585 0) (first_files 262144) ≡ Err NotFirstForm
-unfolding image_t part little_at little_signed_at superblock_of wrong_field inode_place inode_of entries_from entries_within is_entry block_place pieces_within block_pieces content_pieces content_slack content_of sorted_by_order distinct kind_of kind_behind_ntfs kind_behind_hfs kind_behind_ufs1 first_kind first_files files_below first_file first_entries first_root first_inode first_superblock is_first_superblock is_first_inode has_block has_blocks is_first_root is_first_entry is_first_file is_block_size is_fragment_size is_fragment_count is_inode_count ones
+unfolding image_t part number_at signed_at superblock_of wrong_field inode_place inode_of entries_from entries_within is_entry block_place pieces_within block_pieces content_pieces content_slack content_of sorted_by_order distinct kind_of kind_behind_ntfs kind_behind_hfs kind_behind_ufs1 first_kind first_files files_below first_file first_entries first_root first_inode first_superblock is_first_superblock is_first_inode has_block has_blocks is_first_root is_first_entry is_first_file is_block_size is_fragment_size is_fragment_count is_inode_count ones
 block_size_t = refl
 
 block_size_field_t : wrong_field (superblock_of (part (slice_set image_t 65585 0) 65536 1376)) ≡ Some 48
-unfolding image_t part superblock_of wrong_field is_block_size is_fragment_size is_fragment_count is_inode_count little_at little_signed_at ones
+unfolding image_t part superblock_of wrong_field is_block_size is_fragment_size is_fragment_count is_inode_count number_at signed_at ones
 block_size_field_t = refl

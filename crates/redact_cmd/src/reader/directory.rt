@@ -3,11 +3,12 @@ ghost use Rattle.std.specs.Prelude.{◌≡◌, ◌+◌, ◌%◌, ◌<◌, ◌≤
 ghost use Rattle.ufs_defs.specs.Directory.{is_entry as is_entry_by, entry_of, entries_of, leads_on};
 ghost use Rattle.volume_defs.specs.FirstForm.{is_first_entry, is_first_name, listed};
 ghost use Rattle.std.specs.List.{list_all};
-ghost use Rattle.image_defs.specs.Bytes.{part};
+ghost use Rattle.bytes_defs.specs.Bytes.{part};
 ghost use Rattle.redact_cmd.specs.Stages.{GivesItems, IsOwnRefusal};
 
 use crate::status::Status;
-use image_defs::little;
+use bytes_defs::field::{u16_at, u32_at};
+use bytes_defs::order::Order::Little;
 use std::alloc::Global;
 use std::marker::Model;
 use ufs_defs::directory::is_entry;
@@ -30,7 +31,7 @@ impl<'a> Model for Entry<'a> {
 }
 
 /// The bytes from a place on, as many as that or as there are.
-#[tactic(auto, unfolding(image_defs::specs::Bytes::part))]
+#[tactic(auto, unfolding(bytes_defs::specs::Bytes::part))]
 fn part_of(bytes: &[u8], at: usize, len: usize) -> &[u8]
     requires { at ≤ length bytes.now }
     ensures { result.now ≡ part bytes.now at len }
@@ -48,11 +49,11 @@ fn entry_at(content: &[u8], at: usize) -> Entry<'_>
     ensures value { result ≡ entry_of content.now at }
     ensures some { 8 ≤ result.len }
 {
-    let name_len = usize::from(little::u8_at(content, at + 7));
+    let name_len = usize::from(content[at + 7]);
     Entry {
         at,
-        inode: little::u32_at(content, at),
-        len: little::u16_at(content, at + 4),
+        inode: u32_at(Little, content, at),
+        len: u16_at(Little, content, at + 4),
         name: part_of(content, at + 8, name_len),
     }
 }

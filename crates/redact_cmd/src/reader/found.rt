@@ -5,7 +5,7 @@ ghost use Rattle.disk_defs.specs.Disk.{size_of, told_image};
 ghost use Rattle.disk_defs.specs.declared.Area.TheVariants.{Image};
 ghost use Rattle.std.specs.List.{All, list_all};
 ghost use Rattle.image_defs.specs.Ask.{run, each};
-ghost use Rattle.image_defs.specs.Bytes.{part};
+ghost use Rattle.bytes_defs.specs.Bytes.{part};
 ghost use Rattle.ufs_defs.specs.Blocks.{block_place};
 ghost use Rattle.volume_defs.specs.FirstForm.{is_first_superblock, is_first_inode, is_first_root, is_first_entry, first_superblock, first_inode, first_root, first_file};
 ghost use Rattle.volume_defs.specs.FoundFiles.{IsFileOf, AreFilesOf};

@@ -3,7 +3,7 @@ ghost use Rattle.std.specs.Prelude.{◌≡◌, ◌+◌, ◌≤◌, ℕ, true, le
 ghost use Rattle.disk_defs.specs.Count.{Rose};
 ghost use Rattle.disk_defs.specs.Disk.{size_of, told_image};
 ghost use Rattle.disk_defs.specs.declared.Area.TheVariants.{Image};
-ghost use Rattle.image_defs.specs.Bytes.{part};
+ghost use Rattle.bytes_defs.specs.Bytes.{part};
 ghost use Rattle.redact_cmd.specs.declared.status.Status.TheVariants.{DeviceFault};
 
 use crate::status::Status;
