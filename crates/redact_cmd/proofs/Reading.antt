@@ -10,9 +10,9 @@ use Rattle.std.proofs.lemmas.List.Elements.{All-weaker}
 use Rattle.range_defs.specs.declared.Range.{Range}
 use Rattle.range_defs.specs.Places.{EndsInReach}
 use Rattle.rx_ranges.specs.declared.pieces.Piece.{Piece}
-use Rattle.rx_tree.specs.Covering.{goes_on}
+use Rattle.piece_defs.specs.Covering.{goes_on}
 use Rattle.ufs_defs.specs.Inode.{is_directory, is_file}
-use Rattle.ufs_defs.specs.Joined.{grown}
+use Rattle.piece_defs.specs.Joined.{grown}
 use Rattle.ufs_defs.specs.Blocks.{block_size, block_count, block_piece, content_slack}
 use Rattle.ufs_defs.specs.BlockLaws.{AreBlocksWithin, block_begins, AreJoinedTo, joining_grows, joining_begins_anew}
 use Rattle.ufs_defs.specs.SlackLaws.{content_slack_within}

@@ -1,4 +1,3 @@
-pub mod Covering
 pub mod FoundPart
 pub mod FoundTree
 pub mod Order

@@ -29,7 +29,7 @@ pub struct Part {
 
 impl Model for Part {
     ghost use Rattle.rx_tree.specs.FoundPart.{FoundPart};
-    ghost use Rattle.rx_tree.specs.Covering.{ArePiecesOf};
+    ghost use Rattle.piece_defs.specs.Covering.{ArePiecesOf};
 
     ghost Value = { FoundPart };
 

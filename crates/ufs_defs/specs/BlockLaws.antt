@@ -12,9 +12,9 @@ use Rattle.std.proofs.lemmas.Nat.{div-mul-add, mod-mul-add}
 use Rattle.rx_ranges.specs.declared.pieces.Piece.{Piece}
 use Rattle.rx_ranges.specs.declared.pieces.PieceKind.{PieceKind}
 use Rattle.rx_ranges.specs.declared.pieces.PieceKind.TheVariants.{Disk, Zero}
-use Rattle.rx_tree.specs.Covering.{goes_on, covers_from, ArePiecesOf}
+use Rattle.piece_defs.specs.Covering.{goes_on, covers_from, ArePiecesOf}
 use Rattle.rx_tree.specs.Within.{ArePiecesWithin}
-use Rattle.ufs_defs.specs.Joined.{grown, joined_onto, joined_pieces, joined_onto_grows, joined_onto_stands, joined_onto_all, joined_onto_covers, AreInARow}
+use Rattle.piece_defs.specs.Joined.{grown, joined_onto, joined_pieces, joined_onto_grows, joined_onto_stands, joined_onto_all, joined_onto_covers, AreInARow}
 use Rattle.ufs_defs.specs.Blocks.{block_size, block_count, block_place, content_place, block_piece, pieces_within, block_pieces, content_pieces}
 use Rattle.ufs_defs.specs.declared.superblock.Superblock.{Superblock}
 use Rattle.ufs_defs.specs.declared.inode.Inode.{Inode}

@@ -7,7 +7,7 @@ use Rattle.rx_ranges.specs.declared.pieces.Piece.{Piece}
 use Rattle.rx_ranges.specs.declared.pieces.PieceKind.TheVariants.{Disk}
 use Rattle.rx_tree.specs.FoundPart.{FoundPart}
 use Rattle.rx_tree.specs.declared.part.Role.TheVariants.{Content}
-use Rattle.ufs_defs.specs.Joined.{joined_pieces}
+use Rattle.piece_defs.specs.Joined.{joined_pieces}
 use Rattle.ufs_defs.specs.Signed.{counted}
 use Rattle.ufs_defs.specs.declared.superblock.Superblock.{Superblock}
 use Rattle.ufs_defs.specs.declared.inode.Inode.{Inode}

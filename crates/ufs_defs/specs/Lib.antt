@@ -2,7 +2,6 @@ pub mod Signed
 pub mod Superblock
 pub mod Inode
 pub mod Directory
-pub mod Joined
 pub mod Blocks
 pub mod BlockLaws
 pub mod SlackLaws

@@ -8,7 +8,7 @@ use Rattle.range_defs.specs.declared.Range.{Range}
 use Rattle.range_defs.specs.Places.{IsRangeList, covers}
 use Rattle.range_defs.specs.RangeLaws.{same_range_list}
 use Rattle.rx_ranges.specs.declared.pieces.Piece.{Piece}
-use Rattle.rx_tree.specs.Covering.{ArePiecesOf}
+use Rattle.piece_defs.specs.Covering.{ArePiecesOf}
 use Rattle.rx_tree.specs.declared.part.Role.TheVariants.{Content}
 use Rattle.rx_tree.specs.Within.{AreRangesWithin, ArePartsWithin, ArePiecesWithin}
 use Rattle.ufs_defs.specs.Blocks.{block_size, block_count, content_place, content_pieces, content_slack, content_of}

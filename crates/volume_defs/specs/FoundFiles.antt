@@ -13,7 +13,7 @@ use Rattle.std.proofs.lemmas.List.{take_all, take_more}
 use Rattle.std.proofs.lemmas.List.Elements.{All-cons, All-nil, All-append}
 use Rattle.order_defs.specs.DistinctLaws.{sorted_names_law}
 use Rattle.range_defs.specs.declared.Range.{Range}
-use Rattle.rx_tree.specs.Covering.{ArePiecesOf}
+use Rattle.piece_defs.specs.Covering.{ArePiecesOf}
 use Rattle.rx_tree.specs.FoundPart.{FoundPart}
 use Rattle.rx_tree.specs.Order.{StandsBeforeAll, HaveRisingIds}
 use Rattle.rx_tree.specs.Path.{joined_path}

@@ -1,6 +1,6 @@
 //! The content of a file of at most twelve blocks.
 ghost use Rattle.std.specs.Prelude.{◌≡◌, ◌+◌, ◌<◌, ◌≤◌, true, IfOk};
-ghost use Rattle.rx_tree.specs.Covering.{goes_on as goes_on_by};
+ghost use Rattle.piece_defs.specs.Covering.{goes_on as goes_on_by};
 ghost use Rattle.ufs_defs.specs.Blocks.{block_count, block_piece, content_pieces, content_slack, content_of as content_by};
 ghost use Rattle.volume_defs.specs.FirstForm.{is_first_superblock};
 ghost use Rattle.redact_cmd.specs.Content.{has_content};

@@ -1,0 +1,6 @@
+pub mod Covering
+pub mod Places
+pub mod Joined
+pub mod JoinedLaws
+pub mod OnePieces
+pub mod ByteLaws

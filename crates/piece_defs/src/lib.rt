@@ -1,0 +1,4 @@
+//! Where the bytes of a file stand, and the pieces that say it.
+#![tactic(auto)]
+
+pub mod laws;
