@@ -3,15 +3,15 @@
 use Rattle.std.proofs.Common.{◌≡◌, ℕ, zero, suc, ◌+◌, ◌<◌, ◌≤◌, Bool, true, false, ◌&&◌, cond, Option, Some, None, is_some, List, [], ◌∷◌, map, length, get_or, refl, sym, ◌∙◌, ap, subst, arith}
 use mathlib.Core.Path.{fun_ext}
 use Rattle.std.specs.List.{All, flat_map}
-use Rattle.std.proofs.lemmas.List.Elements.{All-nil, All-cons, All-append, All-map, All-weaker, All-same}
+use Rattle.std.proofs.lemmas.List.Elements.{All-nil, All-head, All-tail, All-cons, All-append, All-map, All-weaker, All-same}
 use Rattle.std.proofs.lemmas.Bool.{cond_both, and_right}
 use Rattle.range_defs.specs.declared.Range.{Range}
 use Rattle.range_defs.specs.declared.Claim.{Claim}
 use Rattle.range_defs.specs.Places.{covers, IsLeast, least_below, EndsInReach}
-use Rattle.range_defs.specs.RangeLaws.{EndsBy as RangeEndsBy}
+use Rattle.range_defs.specs.RangeLaws.{EndsBy as RangeEndsBy, covers-past}
 use Rattle.range_defs.specs.LeastLaws.{same_as_least_below}
 use Rattle.range_defs.specs.Claims.{painted, longest_claims, IsFillMap, HaveOneFill}
-use Rattle.range_defs.specs.ClaimLaws.{EndsBy, same_as_longest_claims, ends_where_painted}
+use Rattle.range_defs.specs.ClaimLaws.{EndsBy, painted-past, longest_claims_ends, longest_claims_claim, same_as_longest_claims, ends_where_painted}
 use Rattle.rx_ranges.specs.declared.pieces.PieceKind.{PieceKind}
 use Rattle.rx_ranges.specs.declared.pieces.PieceKind.TheVariants.{Disk, Zero}
 use Rattle.rx_ranges.specs.declared.plan.Plan.{Plan}
@@ -28,7 +28,13 @@ use Rattle.rule_defs.specs.declared.Action.{Action}
 use Rattle.rule_defs.specs.declared.Action.TheVariants.{Fill}
 use Rattle.rule_defs.specs.Settle.{holds, is_plain_file, settling_rule, disk_range, disk_ranges, content_range, content_ranges, fill_of, claimed_ranges, claim_by, claims_by, claims_on}
 use Rattle.plan_defs.specs.Plan.{all_claims, planned_at, is_planned, part_ranges, touched_ranges, touches_planned, lines_for, claim_some, alias_lines, file_lines, lines_of, plan_of, guarded_byte}
-use Rattle.plan_defs.specs.ClaimSets.{All-flat_map, covers-past, painted-past, covers-claims, ends_by-longest, longest-covers}
+
+-- what holds of all that each element gives holds of all that the list gives
+All-flat_map : {X Y : Type 0} (P : X → Type 0) (Q : Y → Type 0) (f : X → List Y) → ((x : X) → P x → All Q (f x))
+    → (xs : List X) → All P xs → All Q (flat_map f xs)
+All-flat_map P Q f each [] all = All-nil Q
+All-flat_map P Q f each (x ∷ xs) all =
+    All-append Q (f x) (flat_map f xs) (each x (All-head P x xs all)) (All-flat_map P Q f each xs (All-tail P x xs all))
 
 -- what lies within a length has its bytes there: pieces, parts, files, claims
 disk_range-of_kind : (end from size at : ℕ) (kind : PieceKind) → at + size ≤ end
@@ -162,7 +168,7 @@ pub touches-by_least : (len : ℕ) (file : FileEntry) (planned touched : List Ra
 touches-by_least len file planned touched answer within same least =
     let past : (byte : ℕ) → len ≤ byte → (covers planned byte && covers touched byte) ≡ false =
     λ byte behind. and_right (covers planned byte) (covers touched byte)
-    (same byte ∙ covers-past (touched_ranges file) len byte (touched_ranges-within len file within) behind) in
+    (same byte ∙ covers-past len byte (touched_ranges file) (touched_ranges-within len file within) behind) in
     ap is_some (same_as_least_below (λ byte. covers planned byte && covers touched byte) len answer least past)
     ∙ ap (λ (touched_set : ℕ → Bool). is_some (least_below (λ byte. covers planned byte && touched_set byte) len)) (fun_ext same)
 
@@ -214,7 +220,7 @@ unfolding plan_of
 plan-in_reach tree rules plan within is =
     subst (λ (p : Plan). All (λ claim. EndsInReach claim.range) p.ranges) (sym is)
     (claims-in_reach tree.image_len (longest_claims (planned_at rules tree.files) 0 tree.image_len) within.in_reach
-    (ends_by-longest (planned_at rules tree.files) 0 tree.image_len tree.image_len (omega arith)))
+    (longest_claims_ends (planned_at rules tree.files) tree.image_len))
 
 -- where two tests agree below a number, the least below it is the same
 least_below-same : (a b : ℕ → Bool) (end : ℕ) → ((byte : ℕ) → byte < end → a byte ≡ b byte) → least_below a end ≡ least_below b end
@@ -232,11 +238,10 @@ pub guarded-by_least : (tree : FoundTree) (rules : List Rule) (plan : Plan) (pla
 unfolding plan_of guarded_byte
 guarded-by_least tree rules plan planned answer within is planned_is least =
     let past : (byte : ℕ) → tree.image_len ≤ byte → (covers planned byte && covers tree.guard byte) ≡ false =
-    λ byte behind. and_right (covers planned byte) (covers tree.guard byte) (covers-past tree.guard tree.image_len byte within.guard behind) in
-    let longest : List Claim = longest_claims (planned_at rules tree.files) 0 tree.image_len in
+    λ byte behind. and_right (covers planned byte) (covers tree.guard byte) (covers-past tree.image_len byte tree.guard within.guard behind) in
     let set_is : (byte : ℕ) → byte < tree.image_len → covers planned byte ≡ is_planned rules tree.files byte =
-    λ byte inside. planned_is byte ∙ ap (λ (p : Plan). is_some (painted p.ranges byte)) is ∙ sym (covers-claims longest byte)
-    ∙ longest-covers (planned_at rules tree.files) 0 tree.image_len byte (omega arith) (omega arith) in
+    λ byte inside. planned_is byte ∙ ap (λ (p : Plan). is_some (painted p.ranges byte)) is
+    ∙ longest_claims_claim (planned_at rules tree.files) tree.image_len byte inside in
     same_as_least_below (λ byte. covers planned byte && covers tree.guard byte) tree.image_len answer least past
     ∙ least_below-same (λ byte. covers planned byte && covers tree.guard byte) (λ byte. is_planned rules tree.files byte && covers tree.guard byte)
     tree.image_len (λ byte inside. ap (λ b. b && covers tree.guard byte) (set_is byte inside))

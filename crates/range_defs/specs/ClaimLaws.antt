@@ -206,8 +206,8 @@ longest-kept paint from (suc count) =
     in_front-kept from (paint from) (longest_claims paint (suc from) count) later.0 later.1
 
 -- the longest claims are a canonical list
-pub longest_claims-kept : (paint : ℕ → Option (ℕ × ℕ)) (end : ℕ) → IsFillMap (longest_claims paint 0 end)
-longest_claims-kept paint end = (longest-kept paint 0 end).0
+pub longest_claims_kept : (paint : ℕ → Option (ℕ × ℕ)) (end : ℕ) → IsFillMap (longest_claims paint 0 end)
+longest_claims_kept paint end = (longest-kept paint 0 end).0
 
 -- a byte that is put in front of claims is added to their bytes where it has a paint
 covers-in_front : (from : ℕ) (paint : Option (ℕ × ℕ)) (claims : List Claim) (byte : ℕ)
@@ -294,8 +294,8 @@ longest-painted paint from (suc count) byte agree =
     cond_some false o p same = absurd cc
 
 -- and these paints, where side by side one rule has one fill
-pub longest_claims-paint : (paint : ℕ → Option (ℕ × ℕ)) (end byte : ℕ) → NeighboursAgree paint → byte < end → painted (longest_claims paint 0 end) byte ≡ paint byte
-longest_claims-paint paint end byte agree inside =
+pub longest_claims_paint : (paint : ℕ → Option (ℕ × ℕ)) (end byte : ℕ) → NeighboursAgree paint → byte < end → painted (longest_claims paint 0 end) byte ≡ paint byte
+longest_claims_paint paint end byte agree inside =
     longest-painted paint 0 end byte agree ∙ cond-true (in_range (record { at = 0; len = end }) byte) (paint byte) None (in_range-inside (record { at = 0; len = end }) byte (omega arith) (omega arith))
 
 some-lesser_paint : (paint : ℕ × ℕ) (other : Option (ℕ × ℕ)) → true ≡ is_some (lesser_paint (Some paint) other)
@@ -315,6 +315,12 @@ covers-claims (claim ∷ claims) byte =
     ap (λ rest. in_range claim.range byte || rest) (covers-claims claims byte)
     ∙ some-paint (in_range claim.range byte) (claim.rule, claim.fill) (painted claims byte)
 
+-- the longest claims claim the bytes that have a paint
+pub longest_claims_claim : (paint : ℕ → Option (ℕ × ℕ)) (end byte : ℕ) → byte < end → is_some (painted (longest_claims paint 0 end) byte) ≡ is_some (paint byte)
+longest_claims_claim paint end byte inside =
+    sym (covers-claims (longest_claims paint 0 end) byte) ∙ longest-covers paint 0 end byte
+    ∙ rw (in_range-inside (record { at = 0; len = end }) byte (omega arith) (omega arith)) refl
+
 none_from : (paint : Option (ℕ × ℕ)) → is_some paint ≡ false → paint ≡ None
 none_from None none = refl
 none_from (Some paint) none = absurd cc
@@ -326,8 +332,8 @@ longest-past paint end byte past =
     (sym (covers-claims (longest_claims paint 0 end) byte) ∙ longest-covers paint 0 end byte ∙ rw out refl)
 
 -- they end with the last byte
-pub longest_claims-ends : (paint : ℕ → Option (ℕ × ℕ)) (end : ℕ) → All (EndsBy end) (longest_claims paint 0 end)
-longest_claims-ends paint end = ends_where_painted (longest_claims paint 0 end) end (longest_claims-kept paint end) (longest-past paint end)
+pub longest_claims_ends : (paint : ℕ → Option (ℕ × ℕ)) (end : ℕ) → All (EndsBy end) (longest_claims paint 0 end)
+longest_claims_ends paint end = ends_where_painted (longest_claims paint 0 end) end (longest_claims_kept paint end) (longest-past paint end)
 
 -- a canonical list of claims that paints each byte as a function says, and no claim of which ends behind a byte, is
 -- the list of the longest claims in front of that byte
@@ -337,8 +343,8 @@ pub same_as_longest_claims : (paint : ℕ → Option (ℕ × ℕ)) (end : ℕ) (
 same_as_longest_claims paint end claims kept same within =
     let agree : NeighboursAgree paint =
     λ byte this next has has_next rule. neighbours_agree claims kept byte this next (same byte ∙ has) (same (suc byte) ∙ has_next) rule in
-    same_fill_map claims (longest_claims paint 0 end) kept (longest_claims-kept paint end)
+    same_fill_map claims (longest_claims paint 0 end) kept (longest_claims_kept paint end)
     (λ byte. ⊎_elim
-    (λ inside. same byte ∙ sym (longest_claims-paint paint end byte agree inside))
+    (λ inside. same byte ∙ sym (longest_claims_paint paint end byte agree inside))
     (λ past. painted-past claims end byte within past ∙ sym (longest-past paint end byte past))
     (cases_lt byte end))

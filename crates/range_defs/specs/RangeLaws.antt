@@ -11,7 +11,7 @@ use Rattle.range_defs.specs.Places.{in_range, covers, BeginsBehind, IsRangeList,
 use Rattle.range_defs.specs.Claims.{painted, lesser_paint, BeginsApart, IsFillMap, ranges_of, longest_claims}
 use Rattle.range_defs.specs.Claims as claims
 use Rattle.range_defs.specs.ClaimLaws as laws
-use Rattle.range_defs.specs.ClaimLaws.{in_range-before, in_range-inside, in_range-behind, covers-claims, longest-covers, longest_claims-kept, longest_claims-ends, same_fill_map, same_as_longest_claims, ends_where_painted}
+use Rattle.range_defs.specs.ClaimLaws.{in_range-before, in_range-inside, in_range-behind, covers-claims, longest-covers, longest_claims_kept, longest_claims_ends, same_fill_map, same_as_longest_claims, ends_where_painted}
 
 -- a range ends at most at this byte
 abbrev pub EndsBy : ℕ → Range → Type 0
@@ -135,21 +135,21 @@ ends_where_covered ranges end kept out =
     (ends_where_painted (as_claims ranges) end (claims-kept ranges kept) (λ byte past. painted-as_claims ranges byte ∙ ap one_paint (out byte past)))
 
 -- the longest ranges are a canonical list
-pub longest_ranges-kept : (test : ℕ → Bool) (end : ℕ) → IsRangeList (longest_ranges test 0 end)
-longest_ranges-kept test end =
+pub longest_ranges_kept : (test : ℕ → Bool) (end : ℕ) → IsRangeList (longest_ranges test 0 end)
+longest_ranges_kept test end =
     ranges-kept (longest_ranges test 0 end)
-    (subst (λ (list : List Claim). IsFillMap list) (sym (longest-claims test 0 end)) (longest_claims-kept (λ byte. one_paint (test byte)) end))
+    (subst (λ (list : List Claim). IsFillMap list) (sym (longest-claims test 0 end)) (longest_claims_kept (λ byte. one_paint (test byte)) end))
 
 -- they end with the last byte
-pub longest_ranges-ends : (test : ℕ → Bool) (end : ℕ) → All (EndsBy end) (longest_ranges test 0 end)
-longest_ranges-ends test end =
+pub longest_ranges_ends : (test : ℕ → Bool) (end : ℕ) → All (EndsBy end) (longest_ranges test 0 end)
+longest_ranges_ends test end =
     ends-as_claims (longest_ranges test 0 end) end
     (All-same (laws.EndsBy end) (as_claims (longest_ranges test 0 end)) (longest_claims (λ byte. one_paint (test byte)) 0 end) (longest-claims test 0 end)
-    (longest_claims-ends (λ byte. one_paint (test byte)) end))
+    (longest_claims_ends (λ byte. one_paint (test byte)) end))
 
 -- and have the bytes that pass the test
-pub longest_ranges-covers : (test : ℕ → Bool) (end byte : ℕ) → byte < end → covers (longest_ranges test 0 end) byte ≡ test byte
-longest_ranges-covers test end byte inside =
+pub longest_ranges_covers : (test : ℕ → Bool) (end byte : ℕ) → byte < end → covers (longest_ranges test 0 end) byte ≡ test byte
+longest_ranges_covers test end byte inside =
     let within : in_range (record { at = 0; len = end }) byte ≡ true = in_range-inside (record { at = 0; len = end }) byte (omega arith) (omega arith) in
     ap (λ (list : List Range). covers list byte) (sym (ranges_of-as_claims (longest_ranges test 0 end)) ∙ ap ranges_of (longest-claims test 0 end))
     ∙ longest-covers (λ b. one_paint (test b)) 0 end byte ∙ rw within (passes (test byte))

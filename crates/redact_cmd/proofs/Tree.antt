@@ -7,8 +7,7 @@ use Rattle.std.proofs.lemmas.List.Elements.{All-cons, All-nil}
 use Rattle.std.proofs.lemmas.Str.{IsUtf8-from_ascii}
 use Rattle.range_defs.specs.declared.Range.{Range}
 use Rattle.range_defs.specs.Places.{covers, IsRangeList, longest_ranges}
-use Rattle.range_defs.specs.RangeLaws.{same_range_list, same_as_longest_ranges, ends_where_covered}
-use Rattle.image_defs.specs.Guard.{covers-past}
+use Rattle.range_defs.specs.RangeLaws.{same_range_list, same_as_longest_ranges, ends_where_covered, covers-past}
 use Rattle.rx_tree.specs.FoundTree.{FoundTree}
 use Rattle.rx_tree.specs.Within.{AreRangesWithin, AreFilesWithin, IsWithin}
 use Rattle.rx_tree.specs.declared.file.FileEntry.{FileEntry}

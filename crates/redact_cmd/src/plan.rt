@@ -2,12 +2,11 @@
 ghost use Rattle.std.specs.Prelude.{◌≡◌, ℕ, ◌&&◌, ◌++◌, [], ◌∷◌, All, List, IfOk, is_some, map, nat_eq};
 ghost use Rattle.std.specs.Cmp.Lexicographic.{pointwise};
 ghost use Rattle.std.specs.List.{flat_map, list_any};
-ghost use Rattle.range_defs.specs.Claims.{painted};
+ghost use Rattle.range_defs.specs.Claims.{painted, ranges_of};
 ghost use Rattle.range_defs.specs.Places.{covers, EndsInReach};
 ghost use Rattle.rx_tree.specs.Within.{ArePartsWithin};
 ghost use Rattle.rule_defs.specs.declared.Rule.{Rule as RuleValue};
 ghost use Rattle.rule_defs.specs.Settle.{last_component, holds, is_plain_file, disk_range, content_range, claim_by, claims_on};
-ghost use Rattle.plan_defs.specs.ClaimSets.{ranges_of};
 ghost use Rattle.plan_defs.specs.Plan.{all_claims, part_ranges, touches_planned, claim_some, lines_of, plan_of, guarded_byte};
 
 use range_defs::{Claim, Range};

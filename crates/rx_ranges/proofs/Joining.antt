@@ -1,12 +1,13 @@
 -- Claims that lie apart, with those joined that touch and have one rule.
-use Rattle.std.proofs.Common.{◌≡◌, ◌≢◌, ℕ, ◌+◌, ◌<◌, ◌≤◌, Bool, true, false, ◌&&◌, ◌==◌, if◌then◌else◌, Option, Some, List, [], ◌∷◌, refl, sym, ◌∙◌, ap, subst, ⊎_elim, arith}
+use Rattle.std.proofs.Common.{◌≡◌, ◌≢◌, ℕ, ◌+◌, ◌<◌, ◌≤◌, Bool, true, false, ◌&&◌, ◌||◌, ◌==◌, if◌then◌else◌, Option, Some, List, [], ◌∷◌, refl, sym, ◌∙◌, ap, subst, ⊎_elim, arith}
 use Rattle.std.specs.List.{All}
 use Rattle.std.proofs.lemmas.List.Elements.{All-head, All-tail}
 use Rattle.std.proofs.lemmas.Bool.{cases_lt, cases_Bool, and_parts, and_from, eqb-true, eq-eqb, ne_eqb, and_right, false≢true}
+use Rattle.std.proofs.lemmas.Bool.Decides.{nat_tests}
 use Rattle.range_defs.specs.declared.Claim.{Claim}
+use Rattle.range_defs.specs.Places.{in_range}
 use Rattle.range_defs.specs.Claims.{paint_of, lesser_paint, painted, BeginsApart, IsFillMap}
-use Rattle.range_defs.specs.RangeLaws.{in_range-before, in_range-behind, in_range-inside}
-use Rattle.range_defs.specs.ClaimLaws.{paint_of-out, paint_of-in}
+use Rattle.range_defs.specs.ClaimLaws.{paint_either}
 use Rattle.rx_ranges.specs.Laying.{AreApart, HasFill}
 
 -- whether a claim is joined to the one behind which it begins
@@ -34,37 +35,13 @@ pub joined-apart : (last next : Claim) (laid : List Claim) → joins last next �
 unfolding joined_to
 joined-apart last next laid apart = rw apart refl
 
-pair_same : {a b c d : ℕ} → a ≡ b → c ≡ d → ◌≡◌ {A = ℕ × ℕ} (a, c) (b, d)
-pair_same p q = cc
-
 -- the bytes of two claims that touch, with one rule and one fill
 grown-paint : (last next : Claim) (byte : ℕ) (rest : Option (ℕ × ℕ)) → next.rule ≡ last.rule → next.fill ≡ last.fill
     → next.range.at ≡ last.range.at + last.range.len
     → lesser_paint (paint_of (grown last next) byte) rest ≡ lesser_paint (paint_of last byte) (lesser_paint (paint_of next byte) rest)
 grown-paint last next byte rest rule fill touches =
-    ⊎_elim
-    (λ first. ⊎_elim
-    (λ before.
-    ap (λ paint. lesser_paint paint rest) (paint_of-out (grown last next) byte (in_range-before (grown last next).range byte before))
-    ∙ sym (ap (λ paint. lesser_paint paint (lesser_paint (paint_of next byte) rest)) (paint_of-out last byte (in_range-before last.range byte before))
-    ∙ ap (λ paint. lesser_paint paint rest) (paint_of-out next byte (in_range-before next.range byte (omega arith)))))
-    (λ begun.
-    ap (λ paint. lesser_paint paint rest) (paint_of-in (grown last next) byte (in_range-inside (grown last next).range byte begun (omega arith)))
-    ∙ sym (ap (λ paint. lesser_paint paint (lesser_paint (paint_of next byte) rest)) (paint_of-in last byte (in_range-inside last.range byte begun (omega arith)))
-    ∙ ap (λ paint. lesser_paint (Some (last.rule, last.fill)) (lesser_paint paint rest)) (paint_of-out next byte (in_range-before next.range byte first))))
-    (cases_lt byte last.range.at))
-    (λ second. ⊎_elim
-    (λ inside.
-    ap (λ paint. lesser_paint paint rest) (paint_of-in (grown last next) byte (in_range-inside (grown last next).range byte (omega arith) (omega arith)))
-    ∙ ap (λ paint. lesser_paint paint rest) (ap Some (sym (pair_same rule fill)))
-    ∙ sym (ap (λ paint. lesser_paint paint (lesser_paint (paint_of next byte) rest)) (paint_of-out last byte (in_range-behind last.range byte (omega arith)))
-    ∙ ap (λ paint. lesser_paint paint rest) (paint_of-in next byte (in_range-inside next.range byte second inside))))
-    (λ past.
-    ap (λ paint. lesser_paint paint rest) (paint_of-out (grown last next) byte (in_range-behind (grown last next).range byte (omega arith)))
-    ∙ sym (ap (λ paint. lesser_paint paint (lesser_paint (paint_of next byte) rest)) (paint_of-out last byte (in_range-behind last.range byte (omega arith)))
-    ∙ ap (λ paint. lesser_paint paint rest) (paint_of-out next byte (in_range-behind next.range byte past))))
-    (cases_lt byte (next.range.at + next.range.len)))
-    (cases_lt byte next.range.at)
+    let both : in_range (grown last next).range byte ≡ (in_range last.range byte || in_range next.range byte) = grind (arith, nat_tests) in
+    rw (both, rule, fill) (paint_either (in_range last.range byte) (in_range next.range byte) (last.rule, last.fill) rest)
 
 -- the same bytes are claimed
 pub painted-joined : (fill : ℕ → ℕ) (last : Claim) (laid : List Claim) (byte : ℕ) → HasFill fill last → All (HasFill fill) laid

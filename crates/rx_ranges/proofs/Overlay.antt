@@ -3,26 +3,16 @@ use Rattle.std.proofs.Common.{◌≡◌, ℕ, ◌+◌, ◌<◌, ◌≤◌, Optio
 use Rattle.std.proofs.lemmas.List.{append-nil}
 use Rattle.std.proofs.lemmas.Bool.{cases_lt, le-leb, lt-leb}
 use Rattle.range_defs.specs.declared.Claim.{Claim}
-use Rattle.range_defs.specs.RangeLaws.{in_range-before, in_range-behind, in_range-inside}
-use Rattle.range_defs.specs.ClaimLaws.{paint_of-out, paint_of-in}
+use Rattle.range_defs.specs.ClaimLaws.{paint_before, paint_behind, paint_inside, lesser-none}
 use Rattle.range_defs.specs.Claims.{paint_of, lesser_paint, painted}
 use Rattle.rx_ranges.specs.Laying.{AreApart, part_of, shared_part, laid_on, unless_empty}
-use Rattle.rx_ranges.proofs.Paints.{lesser-none, painted-unless, part-in, part-before, part-behind, part-out, apart-before}
+use Rattle.rx_ranges.proofs.Paints.{painted-unless, part-in, part-before, part-behind, part-out, apart-before}
 
 -- the claim has those of its bytes for which no lesser or equal rule is there
 unfoldable pub laid_over : Claim → List Claim → List Claim
 laid_over claim [] = unless_empty claim
 laid_over claim (next ∷ laid) =
     laid_on next claim ++ laid_over (part_of claim (next.range.at + next.range.len) (claim.range.at + claim.range.len)) laid
-
-paint_before : (claim : Claim) (byte : ℕ) → byte < claim.range.at → paint_of claim byte ≡ None
-paint_before claim byte before = paint_of-out claim byte (in_range-before claim.range byte before)
-
-paint_behind : (claim : Claim) (byte : ℕ) → claim.range.at + claim.range.len ≤ byte → paint_of claim byte ≡ None
-paint_behind claim byte behind = paint_of-out claim byte (in_range-behind claim.range byte behind)
-
-paint_inside : (claim : Claim) (byte : ℕ) → claim.range.at ≤ byte → byte < claim.range.at + claim.range.len → paint_of claim byte ≡ Some (claim.rule, claim.fill)
-paint_inside claim byte begun inside = paint_of-in claim byte (in_range-inside claim.range byte begun inside)
 
 -- the four parts of the claim and the next one, and what is behind them
 painted-on : (next claim : Claim) (claims : List Claim) (byte : ℕ) (a b c d e : Option (ℕ × ℕ))

@@ -6,13 +6,8 @@ use Rattle.std.proofs.lemmas.Bool.Decides.{nat_tests}
 use Rattle.range_defs.specs.declared.Claim.{Claim}
 use Rattle.range_defs.specs.Places.{in_range}
 use Rattle.range_defs.specs.Claims.{paint_of, lesser_paint, painted}
-use Rattle.range_defs.specs.RangeLaws.{in_range-before}
-use Rattle.range_defs.specs.ClaimLaws.{paint_of-out}
+use Rattle.range_defs.specs.ClaimLaws.{paint_of-out, paint_before, lesser-none}
 use Rattle.rx_ranges.specs.Laying.{AreApart, part_of, unless_empty}
-
-pub lesser-none : (paint : Option (ℕ × ℕ)) → lesser_paint paint None ≡ paint
-lesser-none None = refl
-lesser-none (Some paint) = refl
 
 lesser_assoc-some : (a b c : ℕ × ℕ) → lesser_paint (lesser_paint (Some a) (Some b)) (Some c) ≡ lesser_paint (Some a) (lesser_paint (Some b) (Some c))
 lesser_assoc-some a b c = grind (arith, nat_tests)
@@ -68,7 +63,7 @@ part-in claim from to byte begun inside =
 
 pub part-before : (claim : Claim) (from to byte : ℕ) → byte < from → paint_of (part_of claim from to) byte ≡ None
 unfolding part_of
-part-before claim from to byte before = paint_of-out (part_of claim from to) byte (in_range-before (part_of claim from to).range byte (omega arith))
+part-before claim from to byte before = paint_before (part_of claim from to) byte (omega arith)
 
 pub part-behind : (claim : Claim) (from to byte : ℕ) → to ≤ byte → paint_of (part_of claim from to) byte ≡ None
 unfolding part_of
@@ -92,4 +87,4 @@ pub apart-before : (claims : List Claim) (from byte : ℕ) → AreApart from cla
 apart-before [] from byte apart before = refl
 apart-before (claim ∷ claims) from byte apart before =
     let rest : painted claims byte ≡ None = apart-before claims (claim.range.at + claim.range.len) byte apart.2 (omega (arith, apart.0)) in
-    rw (paint_of-out claim byte (in_range-before claim.range byte (omega (arith, apart.0)))) rest
+    rw (paint_before claim byte (omega (arith, apart.0))) rest

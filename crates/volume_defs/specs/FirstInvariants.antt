@@ -8,7 +8,7 @@ use Rattle.std.proofs.lemmas.List.Elements.{All-cons, All-nil}
 use Rattle.range_defs.specs.Places.{covers}
 use Rattle.bytes_defs.specs.Bytes.{part}
 use Rattle.image_defs.specs.Ask.{Done, run, visits, each}
-use Rattle.image_defs.specs.Guard.{longest-ends}
+use Rattle.range_defs.specs.RangeLaws.{longest_ranges_ends}
 use Rattle.image_defs.specs.Looks.{bind_gives, check_gives}
 use Rattle.rx_tree.specs.Order.{HaveRisingIds}
 use Rattle.rx_tree.specs.Within.{IsWithin, AreFilesWithin}
@@ -129,7 +129,7 @@ first_tree_within image files gives =
       files =
           subst Within (sym found.whole)
           (first_files_within (length image) found.superblock found.root found.entries found.others found.good_superblock found.good_root found.good_files);
-      guard = longest-ends (covers (visits image (first_files (length image)))) 0 (length image) (length image) (omega arith);
+      guard = longest_ranges_ends (covers (visits image (first_files (length image)))) (length image);
     }
 
 -- its files stand by rising number

@@ -2,9 +2,9 @@ use Rattle.std.proofs.Common.{◌≡◌, ℕ, List, is_some, ◌∙◌, ap}
 use Rattle.std.proofs.lemmas.List.Elements.{All-map, All-same}
 use Rattle.std.proofs.lemmas.Result.{IfOk-weaker}
 use Rattle.range_defs.specs.declared.Range.{Range}
-use Rattle.range_defs.specs.Claims.{painted}
+use Rattle.range_defs.specs.Claims.{painted, ranges_of}
 use Rattle.range_defs.specs.Places.{covers, EndsInReach}
-use Rattle.plan_defs.specs.ClaimSets.{ranges_of, covers-claims}
+use Rattle.range_defs.specs.ClaimLaws.{covers-claims}
 use Rattle.redact_cmd.proofs.plan.filled_bytes.Goals as goal
 
 pub from_ranges-requires : goal.from_ranges-requires
