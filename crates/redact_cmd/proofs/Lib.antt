@@ -1,11 +1,4 @@
 pub mod Lines
 pub mod FirstLines
 pub mod Plans
-pub mod Reading
-pub mod Entries
-pub mod Names
-pub mod Told
-pub mod Exits
-pub mod Tree
 pub mod Guarded
-pub mod Files

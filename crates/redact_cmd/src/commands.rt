@@ -9,11 +9,11 @@ ghost use Rattle.redact_cmd.specs.Words.{command_of};
 ghost use Rattle.redact_cmd.specs.Refusals.{IsPlanRefusal, IsSilent};
 
 use crate::plan::{guarded_byte, make_plan};
-use crate::reader::read_tree;
 use crate::report::write_report;
 use crate::rules::read_rule;
 use crate::status::{PlanRefusal, Status};
 use crate::words::{Command, parse_words};
+use first_reader::read_tree;
 use rule_defs::Rule;
 use rx_ranges::Plan;
 use rx_store::{Sink, Source, Store};
@@ -73,7 +73,7 @@ fn plan_command<S: Store, R: Source, K: Sink>(
     };
     let tree = match read_tree(alloc, store) {
         Ok(tree) => tree,
-        Err(status) => return status,
+        Err(fault) => return Status::from(fault),
     };
     let plan = match unguarded_plan(alloc, &tree, &rule) {
         Ok(plan) => plan,

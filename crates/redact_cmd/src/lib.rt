@@ -3,7 +3,6 @@
 
 mod commands;
 mod plan;
-mod reader;
 mod report;
 mod rules;
 pub mod status;

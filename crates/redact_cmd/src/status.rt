@@ -6,6 +6,7 @@ ghost use Rattle.redact_cmd.specs.Status.{code_of, status_line, refusal_line, pl
 ghost use Rattle.redact_cmd.specs.declared.status.Status.TheVariants.{NoMemory};
 
 use arrayvec::ArrayString;
+use first_reader::FirstReadFault;
 use itoa::Buffer;
 use rx_store::{Fault, Sink, write_all};
 use std::alloc::{AllocError, AllocFailed};
@@ -69,6 +70,20 @@ impl<T: Drop> From<AllocFailed<T>> for Status {
 
     fn from(_error: AllocFailed<T>) -> Status {
         Status::NoMemory
+    }
+}
+
+impl From<FirstReadFault> for Status {
+    ghost use Rattle.redact_cmd.specs.Status.{status_of_reading};
+
+    ghost from_gives = { λ fault status. status ≡ status_of_reading fault };
+
+    fn from(fault: FirstReadFault) -> Status {
+        match fault {
+            FirstReadFault::Device => Status::DeviceFault,
+            FirstReadFault::NoMemory => Status::NoMemory,
+            FirstReadFault::OtherForm => Status::NotBuilt,
+        }
     }
 }
 

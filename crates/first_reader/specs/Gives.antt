@@ -1,0 +1,26 @@
+-- What a step of a reader answers, where the image gives this.
+use Rattle.std.specs.Prelude.{◌≡◌, ℕ, Result, Ok, Err, List, Vec}
+use Rattle.rx_tree.specs.FoundTree.{FoundTree}
+use Rattle.volume_defs.specs.FirstForm.{FirstFault, NotFirstForm}
+use Rattle.first_reader.specs.declared.fault.FirstReadFault.{FirstReadFault}
+use Rattle.first_reader.specs.declared.fault.FirstReadFault.TheVariants.{Device, NoMemory, OtherForm}
+
+-- a fault of a step: it is of another form exactly where the image hasn't the first form
+abbrev pub Refuses : {X : Type 0} → FirstReadFault → Result X FirstFault → Type 0
+Refuses Device found = Unit {0}
+Refuses NoMemory found = Unit {0}
+Refuses OtherForm found = found ≡ Err NotFirstForm
+
+-- the answer of a step that reads an image
+abbrev pub Gives : {X : Type 0} → Result X FirstReadFault → Result X FirstFault → Type 0
+Gives (Ok value) found = found ≡ Ok value
+Gives (Err fault) found = Refuses fault found
+
+-- the tree that is read from an image
+abbrev pub GivesTree : Result FoundTree FirstReadFault → Result FoundTree FirstFault → Type 0
+GivesTree result found = Gives result found
+
+-- the items that a step reads
+abbrev pub GivesItems : {X A : Type 0} → Result (Vec X A) FirstReadFault → Result (List X) FirstFault → Type 0
+GivesItems (Ok items) found = found ≡ Ok items.items
+GivesItems (Err fault) found = Refuses fault found
