@@ -14,10 +14,11 @@ use Rattle.plan_defs.specs.Plan.{all_claims, planned_at, is_planned, guarded_byt
 use Rattle.rule_defs.specs.Reads.{Reads}
 use Rattle.volume_defs.specs.FirstTree.{first_tree}
 use Rattle.rx_ranges.specs.declared.plan.Plan.{Plan}
-use Rattle.redact_cmd.specs.declared.status.Status.{Status}
-use Rattle.redact_cmd.specs.declared.status.Status.TheVariants.{PlanRefused}
-use Rattle.redact_cmd.specs.declared.status.PlanRefusal.TheVariants.{MeetsGuard}
-use Rattle.redact_cmd.specs.PlanCommand.{planning_rule, IfBothTold, FillsGuard}
+use Rattle.cmd_defs.specs.declared.status.Status.{Status}
+use Rattle.cmd_defs.specs.declared.status.Status.TheVariants.{PlanRefused}
+use Rattle.cmd_defs.specs.declared.status.PlanRefusal.TheVariants.{MeetsGuard}
+use Rattle.cmd_defs.specs.PlanCommand.{planning_rule, FillsGuard}
+use Rattle.cmd_defs.specs.Outcome.{IfBothTold}
 
 -- the least byte below a number passes the test
 least_below-passes : (test : ℕ → Bool) (end byte : ℕ) → least_below test end ≡ Some byte → test byte ≡ true

@@ -6,7 +6,7 @@ use Rattle.std.specs.Str.Parse.{digits_value, ParsesUnsigned}
 use Rattle.std.proofs.lemmas.Str.Parse.{IsNumeralModel, numerals_by_value, parse_digits}
 use Rattle.std.proofs.lemmas.Bool.{cases_lt}
 use Rattle.std.proofs.lemmas.Bool.Decides.{nat_tests}
-use Rattle.redact_cmd.specs.Words.{is_numeral, command_of, two_words, three_words, four_words}
+use Rattle.cmd_defs.specs.Words.{is_numeral, command_of, two_words, three_words, four_words}
 
 -- what a test of the length and then of the bytes says of a numeral
 pub is_numeral-none : (word : List ℕ) → length word ≡ 0 → is_numeral word ≡ false

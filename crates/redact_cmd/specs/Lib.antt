@@ -1,5 +1,3 @@
-pub mod Words
 pub mod FirstLine
 pub mod Refusals
-pub mod PlanCommand
-pub mod Status
+pub mod Reading

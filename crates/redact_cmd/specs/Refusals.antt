@@ -1,6 +1,6 @@
 -- Which refusals each step of a command may give.
-use Rattle.redact_cmd.specs.declared.status.Status.{Status}
-use Rattle.redact_cmd.specs.declared.status.Status.TheVariants.{Done, Usage, PlanRefused, DeviceFault, SourceFault, SinkFault, NoMemory, NotBuilt}
+use Rattle.cmd_defs.specs.declared.status.Status.{Status}
+use Rattle.cmd_defs.specs.declared.status.Status.TheVariants.{Done, Usage, PlanRefused, DeviceFault, SourceFault, SinkFault, NoMemory, NotBuilt}
 
 -- what may come where the rule text is read
 abbrev pub IsTextRefusal : Status → Type 0
@@ -23,14 +23,3 @@ IsPlanRefusal SourceFault = ⊥
 IsPlanRefusal SinkFault = ⊥
 IsPlanRefusal NoMemory = Unit {0}
 IsPlanRefusal NotBuilt = ⊥
-
--- after these nothing was written
-abbrev pub IsSilent : Status → Type 0
-IsSilent Done = ⊥
-IsSilent Usage = Unit {0}
-IsSilent (PlanRefused refusal) = Unit {0}
-IsSilent DeviceFault = Unit {0}
-IsSilent SourceFault = Unit {0}
-IsSilent SinkFault = ⊥
-IsSilent NoMemory = Unit {0}
-IsSilent NotBuilt = Unit {0}

@@ -4,18 +4,20 @@ ghost use Rattle.disk_defs.specs.Disk.{told_image};
 ghost use Rattle.disk_defs.specs.Stream.{taken_with, TookPrefixOf};
 ghost use Rattle.disk_defs.specs.Count.{Rose};
 ghost use Rattle.plan_defs.specs.Plan.{plan_of, guarded_byte};
-ghost use Rattle.redact_cmd.specs.PlanCommand.{HasReport, HasNoForm, HasPlan, FillsGuard, planning_rule, IfBothTold, SaysRules, IsCalm};
-ghost use Rattle.redact_cmd.specs.Words.{command_of};
-ghost use Rattle.redact_cmd.specs.Refusals.{IsPlanRefusal, IsSilent};
+ghost use Rattle.cmd_defs.specs.Outcome.{IfBothTold, IsCalm, IsSilent};
+ghost use Rattle.cmd_defs.specs.PlanCommand.{HasReport, HasNoForm, FillsGuard, planning_rule, SaysRules, PlanSays, PlanAnswers};
+ghost use Rattle.cmd_defs.specs.Words.{command_of};
+ghost use Rattle.cmd_defs.specs.declared.status.Status.{Status as StatusValue};
+ghost use Rattle.redact_cmd.specs.Refusals.{IsPlanRefusal};
 
 use crate::plan::{guarded_byte, make_plan};
-use crate::report::write_report;
 use crate::rules::read_rule;
-use crate::status::{PlanRefusal, Status};
-use crate::words::{Command, parse_words};
+use crate::words::parse_words;
+use cmd_defs::{Command, PlanRefusal, Status};
 use first_reader::read_tree;
 use rule_defs::Rule;
 use rx_ranges::Plan;
+use rx_report::write_report;
 use rx_store::{Sink, Source, Store};
 use rx_tree::Tree;
 use std::alloc::Global;
@@ -104,33 +106,19 @@ pub fn run<S: Store, R: Source, K: Sink>(
     ensures usage { (result ≡ Status.Usage) ↔ (command_of (map (λ word. string_bytes word) words.now) ≡ None) }
     ensures unbuilt_commands { IfSome (command_of (map (λ word. string_bytes word) words.now)) (λ command. command ≢ Command.Plan → result ≡ Status.NotBuilt) }
 
-    // Done: the rule text was read to its end, and the sink took the report of the plan.
-    ensures wrote { result ≡ Status.Done → IfBothTold (R.rest rules.old) (told_image (S.state store.old)) (λ text image.
-        HasReport text image (λ report. K.taken out.new ≡ taken_with (K.taken out.old) report)) }
+    // What the status of `plan` says of the rule text and the image, and of what was written.
+    ensures plan { command_of (map (λ word. string_bytes word) words.now) ≡ Some Command.Plan
+        → IfBothTold (R.rest rules.old) (told_image (S.state store.old)) (λ text image. PlanSays result text image
+        (λ report. K.taken out.new ≡ taken_with (K.taken out.old) report) (TookPrefixOf (K.taken out.old) (K.taken out.new))) }
     ensures ended { result ≡ Status.Done → IfSome (R.rest rules.new) (λ rest. rest ≡ []) }
 
-    // NotBuilt of `plan`: the rule text or the image has another form.
-    ensures unbuilt { command_of (map (λ word. string_bytes word) words.now) ≡ Some Command.Plan → result ≡ Status.NotBuilt
-        → IfBothTold (R.rest rules.old) (told_image (S.state store.old)) HasNoForm }
-
-    // MeetsGuard: the plan would fill this byte of the guard, the least one, by this rule.
-    ensures guarded { (byte number : ℕ) → result ≡ Status.PlanRefused (PlanRefusal.MeetsGuard byte number)
-        → IfBothTold (R.rest rules.old) (told_image (S.state store.old)) (FillsGuard byte number) }
-
-    // With the forms met and nothing counted, the answer is Done or MeetsGuard, as the plan has it, or memory ran out.
-    ensures complete { command_of (map (λ word. string_bytes word) words.now) ≡ Some Command.Plan
-        → IfBothTold (R.rest rules.old) (told_image (S.state store.old)) (λ text image. HasPlan text image
+    // With nothing counted it is the one answer that the text and the image have, or memory ran out.
+    ensures complete { command_of (map (λ word. string_bytes word) words.now) ≡ Some Command.Plan → (answer : StatusValue)
+        → IfBothTold (R.rest rules.old) (told_image (S.state store.old)) (λ text image. PlanAnswers answer text image
         → IsCalm (S.faults store.old) (S.faults store.new) → IsCalm (R.faults rules.old) (R.faults rules.new)
-        → IsCalm (K.faults out.old) (K.faults out.new) → (result ≡ Status.Done) ⊎ (result ≡ Status.NoMemory)) }
-    ensures complete_guarded { command_of (map (λ word. string_bytes word) words.now) ≡ Some Command.Plan
-        → (byte number : ℕ) → IfBothTold (R.rest rules.old) (told_image (S.state store.old)) (λ text image. FillsGuard byte number text image
-        → IsCalm (S.faults store.old) (S.faults store.new) → IsCalm (R.faults rules.old) (R.faults rules.new)
-        → IsCalm (K.faults out.old) (K.faults out.new)
-        → (result ≡ Status.PlanRefused (PlanRefusal.MeetsGuard byte number)) ⊎ (result ≡ Status.NoMemory)) }
+        → IsCalm (K.faults out.old) (K.faults out.new) → (result ≡ answer) ⊎ (result ≡ Status.NoMemory)) }
 
     // What a refusal leaves.
-    ensures prefix { result ≡ Status.SinkFault → IfBothTold (R.rest rules.old) (told_image (S.state store.old)) (λ text image.
-        HasReport text image (TookPrefixOf (K.taken out.old) (K.taken out.new))) }
     ensures silent { IsSilent result → K.taken out.new ≡ K.taken out.old }
     ensures same { S.state store.new ≡ S.state store.old }
 

@@ -5,9 +5,10 @@ mod commands;
 mod plan;
 mod report;
 mod rules;
-pub mod status;
-pub mod words;
+mod status;
+mod words;
 
+pub use cmd_defs::{Command, PlanRefusal, Status};
 pub use commands::run;
-pub use status::{PlanRefusal, Status, write_status};
-pub use words::{Command, parse_words};
+pub use status::write_status;
+pub use words::parse_words;

@@ -6,7 +6,7 @@ ghost use Rattle.rule_defs.specs.Reads.{is_name_byte, is_plain_name, hex_value, 
 ghost use Rattle.redact_cmd.specs.FirstLine.{without_end, IsOtherLine};
 ghost use Rattle.redact_cmd.specs.Refusals.{IsTextRefusal};
 
-use crate::status::Status;
+use cmd_defs::Status;
 use rule_defs::{Action, Condition, Rule};
 use rx_ranges::{NoMemory, Text};
 use rx_store::{ReadError, Source, read_to_end};

@@ -2,79 +2,16 @@
 ghost use Rattle.std.specs.Prelude.{◌≡◌, ◌≤◌, length, OnOk, OnErr};
 ghost use Rattle.disk_defs.specs.Count.{Rose};
 ghost use Rattle.disk_defs.specs.Stream.{taken_with, TookPrefixOf};
-ghost use Rattle.redact_cmd.specs.Status.{code_of, status_line, refusal_line, plain_text};
-ghost use Rattle.redact_cmd.specs.declared.status.Status.TheVariants.{NoMemory};
+ghost use Rattle.cmd_defs.specs.Status.{status_line, refusal_line, plain_text};
 
 use arrayvec::ArrayString;
+use cmd_defs::{PlanRefusal, Status};
 use first_reader::FirstReadFault;
 use itoa::Buffer;
 use rx_store::{Fault, Sink, write_all};
-use std::alloc::{AllocError, AllocFailed};
-
-/// Why a plan is refused.
-#[derive(Clone, Copy, Debug, PartialEq, Eq)]
-pub enum PlanRefusal {
-    /// It would fill this byte of the guard, the least one, by this rule.
-    MeetsGuard(u64, u32),
-}
-
-/// What a command answers.
-#[derive(Clone, Copy, Debug, PartialEq, Eq)]
-pub enum Status {
-    /// It is done.
-    Done,
-    /// The words ask for no command.
-    Usage,
-    /// The rules can't be carried out on the image.
-    PlanRefused(PlanRefusal),
-    /// The image or the journal failed.
-    DeviceFault,
-    /// The rule text failed.
-    SourceFault,
-    /// The output failed.
-    SinkFault,
-    /// Memory ran out.
-    NoMemory,
-    /// The program can't do this yet.
-    NotBuilt,
-}
-
-impl Status {
-    /// The code with which the program ends.
-    pub fn code(&self) -> u8
-        ensures { result ≡ code_of self.now }
-    {
-        match self {
-            Status::Done => 0,
-            Status::Usage => 2,
-            Status::PlanRefused(_) => 7,
-            Status::DeviceFault => 10,
-            Status::SourceFault => 11,
-            Status::SinkFault => 12,
-            Status::NoMemory => 14,
-            Status::NotBuilt => 15,
-        }
-    }
-}
-
-impl From<AllocError> for Status {
-    ghost from_gives = { λ _ status. status ≡ NoMemory };
-
-    fn from(_error: AllocError) -> Status {
-        Status::NoMemory
-    }
-}
-
-impl<T: Drop> From<AllocFailed<T>> for Status {
-    ghost from_gives = { λ _ status. status ≡ NoMemory };
-
-    fn from(_error: AllocFailed<T>) -> Status {
-        Status::NoMemory
-    }
-}
 
 impl From<FirstReadFault> for Status {
-    ghost use Rattle.redact_cmd.specs.Status.{status_of_reading};
+    ghost use Rattle.redact_cmd.specs.Reading.{status_of_reading};
 
     ghost from_gives = { λ fault status. status ≡ status_of_reading fault };
 
@@ -103,7 +40,7 @@ const LINE: usize = 160;
 type Line = ArrayString<LINE>;
 
 /// The line that says a refusal of a plan.
-#[tactic(auto, unfolding(crate::specs::Status::refusal_line))]
+#[tactic(auto, unfolding(cmd_defs::specs::Status::refusal_line))]
 fn line_of_refusal(refusal: PlanRefusal) -> Line
     ensures { result.bytes ≡ refusal_line refusal }
 {
@@ -118,7 +55,7 @@ fn line_of_refusal(refusal: PlanRefusal) -> Line
 }
 
 /// The text that says a status with no operand.
-#[tactic(auto, unfolding(crate::specs::Status::plain_text))]
+#[tactic(auto, unfolding(cmd_defs::specs::Status::plain_text))]
 fn text_of(status: &Status) -> &'static str
     ensures text { result.now ≡ plain_text status.now }
     ensures short { length result.now ≤ 149 }
@@ -137,7 +74,7 @@ fn text_of(status: &Status) -> &'static str
 }
 
 /// The line that says a status.
-#[tactic(auto, unfolding(crate::specs::Status::status_line, crate::specs::Status::program_line))]
+#[tactic(auto, unfolding(cmd_defs::specs::Status::status_line, cmd_defs::specs::Status::program_line))]
 fn line_of(status: &Status) -> Line
     ensures { result.bytes ≡ status_line status.now }
 {

@@ -3,30 +3,10 @@ ghost use Rattle.std.specs.Prelude.{◌≡◌, map};
 ghost use Rattle.std.specs.Char.{is_ascii_digit};
 ghost use Rattle.std.specs.List.{list_all};
 ghost use Rattle.std.specs.String.{string_bytes};
-ghost use Rattle.redact_cmd.specs.Words.{command_of, two_words, three_words, four_words, selftest_of, kind_of, number_of, is_numeral};
+ghost use Rattle.cmd_defs.specs.Words.{command_of, two_words, three_words, four_words, selftest_of, kind_of, number_of, is_numeral};
 
+use cmd_defs::Command;
 use rx_tree::FsKind;
-
-/// What the program is asked to do.
-#[derive(Clone, Copy, Debug, PartialEq, Eq)]
-pub enum Command {
-    /// To list what the image holds.
-    Inventory,
-    /// To report what the rules would fill.
-    Plan,
-    /// To fill what the rules say.
-    Redact,
-    /// To finish what the journal holds.
-    Resume,
-    /// To report what the journal holds.
-    Report,
-    /// To try the program on an image that it makes.
-    Selftest {
-        kind: FsKind,
-        number: u32,
-        files: u32,
-    },
-}
 
 /// The command that words ask for, where they fit a line of the usage.
 #[tactic(auto, using(crate::proofs::Lines::lines))]
@@ -49,7 +29,7 @@ pub fn parse_words(words: &[String]) -> Option<Command>
 }
 
 /// `inventory IMAGE` and `report JOURNAL`.
-#[tactic(auto, unfolding(crate::specs::Words::two_words))]
+#[tactic(auto, unfolding(cmd_defs::specs::Words::two_words))]
 fn of_two_words(verb: &str) -> Option<Command>
     ensures { result ≡ two_words verb.now }
 {
@@ -61,7 +41,7 @@ fn of_two_words(verb: &str) -> Option<Command>
 }
 
 /// `plan IMAGE RULES` and `resume IMAGE JOURNAL`.
-#[tactic(auto, unfolding(crate::specs::Words::three_words))]
+#[tactic(auto, unfolding(cmd_defs::specs::Words::three_words))]
 fn of_three_words(verb: &str, second: &str, third: &str) -> Option<Command>
     ensures { result ≡ three_words verb.now second.now third.now }
 {
@@ -73,7 +53,7 @@ fn of_three_words(verb: &str, second: &str, third: &str) -> Option<Command>
 }
 
 /// `redact IMAGE JOURNAL RULES` and `selftest KIND NUMBER FILES`.
-#[tactic(auto, unfolding(crate::specs::Words::four_words))]
+#[tactic(auto, unfolding(cmd_defs::specs::Words::four_words))]
 fn of_four_words(verb: &str, second: &str, third: &str, fourth: &str) -> Option<Command>
     ensures { result ≡ four_words verb.now second.now third.now fourth.now }
 {
@@ -85,7 +65,7 @@ fn of_four_words(verb: &str, second: &str, third: &str, fourth: &str) -> Option<
 }
 
 /// The command `selftest` with these operands.
-#[tactic(auto, unfolding(crate::specs::Words::selftest_of))]
+#[tactic(auto, unfolding(cmd_defs::specs::Words::selftest_of))]
 fn parse_selftest(kind: &str, number: &str, files: &str) -> Option<Command>
     ensures { result ≡ selftest_of kind.now number.now files.now }
 {
@@ -100,7 +80,7 @@ fn parse_selftest(kind: &str, number: &str, files: &str) -> Option<Command>
 }
 
 /// The kind of file system that a word names.
-#[tactic(auto, unfolding(crate::specs::Words::kind_of))]
+#[tactic(auto, unfolding(cmd_defs::specs::Words::kind_of))]
 fn parse_kind(word: &str) -> Option<FsKind>
     ensures { result ≡ kind_of word.now }
 {
@@ -114,7 +94,7 @@ fn parse_kind(word: &str) -> Option<FsKind>
 }
 
 /// The number from `least` to `most` that a word writes, without a sign or leading zeros.
-#[tactic(auto, unfolding(crate::specs::Words::number_of))]
+#[tactic(auto, unfolding(cmd_defs::specs::Words::number_of))]
 fn parse_number(word: &str, least: u32, most: u32) -> Option<u32>
     ensures { result ≡ number_of least most word.now }
 {

@@ -1,9 +1,9 @@
 -- The code and the line of a status.
 use Rattle.std.specs.Prelude.{ℕ, List, [], ◌++◌, codes, decimal}
-use Rattle.redact_cmd.specs.declared.status.Status.{Status}
-use Rattle.redact_cmd.specs.declared.status.Status.TheVariants.{Done, Usage, PlanRefused, DeviceFault, SourceFault, SinkFault, NoMemory, NotBuilt}
-use Rattle.redact_cmd.specs.declared.status.PlanRefusal.{PlanRefusal}
-use Rattle.redact_cmd.specs.declared.status.PlanRefusal.TheVariants.{MeetsGuard}
+use Rattle.cmd_defs.specs.declared.status.Status.{Status}
+use Rattle.cmd_defs.specs.declared.status.Status.TheVariants.{Done, Usage, PlanRefused, DeviceFault, SourceFault, SinkFault, NoMemory, NotBuilt}
+use Rattle.cmd_defs.specs.declared.status.PlanRefusal.{PlanRefusal}
+use Rattle.cmd_defs.specs.declared.status.PlanRefusal.TheVariants.{MeetsGuard}
 
 -- the code with which the program ends
 abbrev pub code_of : Status → ℕ

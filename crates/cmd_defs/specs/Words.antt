@@ -7,8 +7,8 @@ use Rattle.std.specs.Str.{bytes_eq}
 use Rattle.std.specs.Str.Parse.{digits_value}
 use Rattle.rx_tree.specs.declared.volume.FsKind.{FsKind}
 use Rattle.rx_tree.specs.declared.volume.FsKind.TheVariants.{Ntfs, Ufs1, Ufs2, HfsPlus}
-use Rattle.redact_cmd.specs.declared.words.Command.{Command}
-use Rattle.redact_cmd.specs.declared.words.Command.TheVariants.{Inventory, Plan, Redact, Resume, Report, Selftest}
+use Rattle.cmd_defs.specs.declared.command.Command.{Command}
+use Rattle.cmd_defs.specs.declared.command.Command.TheVariants.{Inventory, Plan, Redact, Resume, Report, Selftest}
 
 infixl 10 ◌>>=◌
 -- what the second gives for the first, where both are there

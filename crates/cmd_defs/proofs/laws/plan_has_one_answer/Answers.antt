@@ -1,0 +1,5 @@
+use Rattle.cmd_defs.specs.PlanAnswerLaw.{one_answer}
+use Rattle.cmd_defs.proofs.laws.plan_has_one_answer.Goals as goal
+
+pub returns : goal.returns
+returns c = one_answer

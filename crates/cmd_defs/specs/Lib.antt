@@ -1,0 +1,5 @@
+pub mod Words
+pub mod Status
+pub mod Outcome
+pub mod PlanCommand
+pub mod PlanAnswerLaw

@@ -1,0 +1,37 @@
+-- How a command ended: what its statuses are about, and the premises of what is said of them.
+use Rattle.std.specs.Prelude.{ℕ, Option, Some, None, List}
+use Rattle.disk_defs.specs.Count.{Rose}
+use Rattle.cmd_defs.specs.declared.status.Status.{Status}
+use Rattle.cmd_defs.specs.declared.status.Status.TheVariants.{Done, Usage, PlanRefused, DeviceFault, SourceFault, SinkFault, NoMemory, NotBuilt}
+
+-- the statuses that tell of the words, the texts and the disk alone: no fault, and no want of memory
+abbrev pub IsAnswer : Status → Type 0
+IsAnswer Done = Unit {0}
+IsAnswer Usage = Unit {0}
+IsAnswer (PlanRefused refusal) = Unit {0}
+IsAnswer DeviceFault = ⊥
+IsAnswer SourceFault = ⊥
+IsAnswer SinkFault = ⊥
+IsAnswer NoMemory = ⊥
+IsAnswer NotBuilt = Unit {0}
+
+-- after these nothing was written
+abbrev pub IsSilent : Status → Type 0
+IsSilent Done = ⊥
+IsSilent Usage = Unit {0}
+IsSilent (PlanRefused refusal) = Unit {0}
+IsSilent DeviceFault = Unit {0}
+IsSilent SourceFault = Unit {0}
+IsSilent SinkFault = ⊥
+IsSilent NoMemory = Unit {0}
+IsSilent NotBuilt = Unit {0}
+
+-- a fact of the rule text and the image, where both are told
+abbrev pub IfBothTold : Option (List ℕ) → Option (List ℕ) → (List ℕ → List ℕ → Type 0) → Type 0
+IfBothTold None image P = Unit {0}
+IfBothTold (Some text) None P = Unit {0}
+IfBothTold (Some text) (Some image) P = P text image
+
+-- no fault was counted between two moments
+abbrev pub IsCalm : ℕ → ℕ → Type 0
+IsCalm before now = ¬ (Rose before now)

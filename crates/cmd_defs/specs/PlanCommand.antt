@@ -1,0 +1,59 @@
+-- The command `plan`: what each status says of the rule text and the image, and of what was written.
+use Rattle.std.specs.Prelude.{◌≡◌, ℕ, Option, Some, None, Ok, List}
+use Rattle.std.specs.Option.{option_map}
+use Rattle.rule_defs.specs.declared.Rule.{Rule}
+use Rattle.rule_defs.specs.Reads.{Reads}
+use Rattle.rx_tree.specs.FoundTree.{FoundTree}
+use Rattle.volume_defs.specs.FirstTree.{first_tree}
+use Rattle.plan_defs.specs.Plan.{plan_of, planned_at, guarded_byte}
+use Rattle.text_defs.specs.Report.{report}
+use Rattle.text_defs.specs.declared.ReportState.TheVariants.{Planned}
+use Rattle.cmd_defs.specs.declared.status.Status.{Status}
+use Rattle.cmd_defs.specs.declared.status.Status.TheVariants.{Done, Usage, PlanRefused, DeviceFault, SourceFault, SinkFault, NoMemory, NotBuilt}
+use Rattle.cmd_defs.specs.declared.status.PlanRefusal.TheVariants.{MeetsGuard}
+use Rattle.cmd_defs.specs.Outcome.{IsAnswer}
+
+-- the rule text says these rules, and the image this tree
+pub record MeetsForms (text image : List ℕ) (rules : List Rule) (tree : FoundTree) : Type 0 where
+  pub reads : Reads text rules
+  pub tree_is : first_tree image ≡ Ok tree
+
+-- the text says some rules
+abbrev pub SaysRules : List ℕ → Type 0
+SaysRules text = (rules : List Rule) × Reads text rules
+
+-- the text or the image has another form
+abbrev pub HasNoForm : List ℕ → List ℕ → Type 0
+HasNoForm text image = (rules : List Rule) (tree : FoundTree) → ¬ (MeetsForms text image rules tree)
+
+-- the number of the rule by which a byte is planned
+abbrev pub planning_rule : List Rule → FoundTree → ℕ → Option ℕ
+planning_rule rules tree byte = option_map (λ paint. paint.0) (planned_at rules tree.files byte)
+
+-- this byte is the least of the guard that the plan fills, and this is its rule
+abbrev pub FillsGuard : ℕ → ℕ → List ℕ → List ℕ → Type 0
+FillsGuard byte number text image =
+    (rules : List Rule) × (tree : FoundTree) × MeetsForms text image rules tree × (guarded_byte tree rules ≡ Some byte)
+    × (planning_rule rules tree byte ≡ Some number)
+
+-- the text and the image have a plan that fills no byte of the guard, and this holds of its report
+abbrev pub HasReport : List ℕ → List ℕ → (List ℕ → Type 0) → Type 0
+HasReport text image P =
+    (rules : List Rule) × (tree : FoundTree) × MeetsForms text image rules tree × (guarded_byte tree rules ≡ None)
+    × P (report (plan_of tree rules) Planned)
+
+-- What a status of `plan` says of the rule text and the image, in the order of the refusals. The two facts are of what was
+-- written: this text, and some first bytes of it. A status that `plan` never gives has no case that holds.
+abbrev pub PlanSays : Status → List ℕ → List ℕ → (List ℕ → Type 0) → (List ℕ → Type 0) → Type 0
+PlanSays Usage text image Wrote BeganWith = ⊥
+PlanSays SourceFault text image Wrote BeganWith = Unit {0}
+PlanSays NotBuilt text image Wrote BeganWith = HasNoForm text image
+PlanSays DeviceFault text image Wrote BeganWith = SaysRules text
+PlanSays (PlanRefused (MeetsGuard byte number)) text image Wrote BeganWith = FillsGuard byte number text image
+PlanSays SinkFault text image Wrote BeganWith = HasReport text image BeganWith
+PlanSays Done text image Wrote BeganWith = HasReport text image Wrote
+PlanSays NoMemory text image Wrote BeganWith = Unit {0}
+
+-- the answer of `plan` to a text and an image, whatever was written
+abbrev pub PlanAnswers : Status → List ℕ → List ℕ → Type 0
+PlanAnswers status text image = IsAnswer status × PlanSays status text image (λ written. Unit {0}) (λ written. Unit {0})

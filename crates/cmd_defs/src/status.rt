@@ -1,0 +1,68 @@
+//! What a command answers.
+ghost use Rattle.std.specs.Prelude.{◌≡◌};
+ghost use Rattle.cmd_defs.specs.Status.{code_of};
+ghost use Rattle.cmd_defs.specs.declared.status.Status.TheVariants.{NoMemory};
+
+use std::alloc::{AllocError, AllocFailed};
+
+/// Why a plan is refused.
+#[derive(Clone, Copy, Debug, PartialEq, Eq)]
+pub enum PlanRefusal {
+    /// It would fill this byte of the guard, the least one, by this rule.
+    MeetsGuard(u64, u32),
+}
+
+/// What a command answers.
+#[derive(Clone, Copy, Debug, PartialEq, Eq)]
+pub enum Status {
+    /// It is done.
+    Done,
+    /// The words ask for no command.
+    Usage,
+    /// The rules can't be carried out on the image.
+    PlanRefused(PlanRefusal),
+    /// The image or the journal failed.
+    DeviceFault,
+    /// The rule text failed.
+    SourceFault,
+    /// The output failed.
+    SinkFault,
+    /// Memory ran out.
+    NoMemory,
+    /// The program can't do this yet.
+    NotBuilt,
+}
+
+impl Status {
+    /// The code with which the program ends.
+    pub fn code(&self) -> u8
+        ensures { result ≡ code_of self.now }
+    {
+        match self {
+            Status::Done => 0,
+            Status::Usage => 2,
+            Status::PlanRefused(_) => 7,
+            Status::DeviceFault => 10,
+            Status::SourceFault => 11,
+            Status::SinkFault => 12,
+            Status::NoMemory => 14,
+            Status::NotBuilt => 15,
+        }
+    }
+}
+
+impl From<AllocError> for Status {
+    ghost from_gives = { λ _ status. status ≡ NoMemory };
+
+    fn from(_error: AllocError) -> Status {
+        Status::NoMemory
+    }
+}
+
+impl<T: Drop> From<AllocFailed<T>> for Status {
+    ghost from_gives = { λ _ status. status ≡ NoMemory };
+
+    fn from(_error: AllocFailed<T>) -> Status {
+        Status::NoMemory
+    }
+}
