@@ -3,7 +3,6 @@
 
 mod commands;
 mod plan;
-mod report;
 mod rules;
 mod status;
 mod words;
