@@ -1,20 +1,47 @@
 -- The claim that holds a byte.
-use Rattle.std.proofs.Common.{◌≡◌, ℕ, ◌+◌, ◌<◌, ◌≤◌, Some, List, ◌∷◌, length, drop, get_or, ◌∙◌, ap, subst}
-use Rattle.std.proofs.lemmas.List.{drop_more}
+use Rattle.std.proofs.Common.{◌≡◌, ℕ, zero, suc, ◌+◌, ◌-◌, ◌<◌, ◌≤◌, Option, None, List, [], ◌∷◌, length, get_or, refl, sym, ◌∙◌, ap, arith, add-one}
+use Rattle.std.specs.List.{AllWithin}
+use Rattle.std.specs.List.Sorted.{IsNonDecreasingBy}
+use Rattle.std.proofs.lemmas.List.Sorted.{IsNonDecreasingBy-from_all_adjacent}
 use Rattle.range_defs.specs.declared.Claim.{Claim}
-use Rattle.range_defs.specs.Claims.{painted, IsFillMap}
-use Rattle.range_defs.specs.ClaimLaws.{painted-inside}
+use Rattle.range_defs.specs.Claims.{paint_of, lesser_paint, painted, IsFillMap}
+use Rattle.range_defs.specs.ClaimLaws.{painted-before, painted-after, lesser-none}
 
--- what the claims give a byte is what those that are left give it
-abbrev pub Left : List Claim → ℕ → ℕ → Type 0
-Left claims i byte = IsFillMap (drop i claims) × (painted claims byte ≡ painted (drop i claims) byte)
+-- the claims of a map rise
+rises : (claims : List Claim) (k : ℕ) (d : Claim) → IsFillMap claims → suc k < length claims → (get_or claims k d).range.at ≤ (get_or claims (suc k) d).range.at
+rises [] k d kept within = absurd (omega arith)
+rises (claim ∷ []) k d kept within = absurd (omega arith)
+rises (claim ∷ next ∷ claims) zero d kept within = omega (arith, kept.1.0)
+rises (claim ∷ next ∷ claims) (suc k) d kept within = rises (next ∷ claims) k d kept.2 (omega arith)
 
--- the claim has the byte
-pub left-found : (claims : List Claim) (i byte : ℕ) (d : Claim) → Left claims i byte → i < length claims
-    → (get_or claims i d).range.at ≤ byte → byte < (get_or claims i d).range.at + (get_or claims i d).range.len
-    → painted claims byte ≡ Some ((get_or claims i d).rule, (get_or claims i d).fill)
-left-found claims i byte d so_far within begun inside =
-    let claim : Claim = get_or claims i d in
-    let opened : drop i claims ≡ claim ∷ drop (i + 1) claims = drop_more claims i d within in
-    so_far.1 ∙ ap (λ (xs : List Claim). painted xs byte) opened
-    ∙ painted-inside claim (drop (i + 1) claims) byte (subst (λ (xs : List Claim). IsFillMap xs) opened so_far.0) begun inside
+pub non_decreasing : (claims : List Claim) → IsFillMap claims → IsNonDecreasingBy (λ claim. claim.range.at) claims
+non_decreasing claims kept =
+    IsNonDecreasingBy-from_all_adjacent (λ claim. claim.range.at) claims (λ k d within. rw add-one (rises claims k d kept (omega arith)))
+
+-- where all begin behind a byte, none has it
+pub held-none : (claims : List Claim) (begun byte : ℕ) → begun ≡ 0 → IsFillMap claims → AllWithin (λ claim. byte < claim.range.at) claims begun (length claims) → painted claims byte ≡ None
+held-none [] begun byte none kept behind = refl
+held-none (claim ∷ claims) begun byte none kept behind = painted-before (claim ∷ claims) byte kept (behind 0 claim (omega arith) (omega arith))
+
+-- else the last one that does not begin behind it may have it, and no other does
+held-last : (claims : List Claim) (last byte : ℕ) (d : Claim) → IsFillMap claims → last < length claims
+    → AllWithin (λ claim. claim.range.at ≤ byte) claims 0 (suc last) → AllWithin (λ claim. byte < claim.range.at) claims (suc last) (length claims)
+    → painted claims byte ≡ paint_of (get_or claims last d) byte
+held-last [] last byte d kept within begun behind = absurd (omega arith)
+held-last (claim ∷ claims) zero byte d kept within begun behind =
+    ap (lesser_paint (paint_of claim byte)) (held-none claims 0 byte refl kept.2 (λ i e low inside. behind (suc i) e (omega arith) (omega arith)))
+    ∙ lesser-none (paint_of claim byte)
+held-last (claim ∷ []) (suc last) byte d kept within begun behind = absurd (omega arith)
+held-last (claim ∷ next ∷ claims) (suc last) byte d kept within begun behind =
+    let first : next.range.at ≤ byte = begun 1 next (omega arith) (omega arith) in
+    painted-after claim (next ∷ claims) byte (omega (arith, kept.1.0, first))
+    ∙ held-last (next ∷ claims) last byte d kept.2 (omega arith) (λ i e low inside. begun (suc i) e (omega arith) (omega arith)) (λ i e low inside. behind (suc i) e (omega arith) (omega arith))
+
+pub held : (claims : List Claim) (begun byte : ℕ) (claim : Claim) → IsFillMap claims → 0 < begun → begun ≤ length claims
+    → AllWithin (λ claim. claim.range.at ≤ byte) claims 0 begun → AllWithin (λ claim. byte < claim.range.at) claims begun (length claims)
+    → claim ≡ get_or claims (begun - 1) claim → (claim.range.at ≤ byte) × (painted claims byte ≡ paint_of claim byte)
+held claims begun byte claim kept some within up_to behind is = (
+  rw is (up_to (begun - 1) claim (omega arith) (omega arith)),
+  held-last claims (begun - 1) byte claim kept (omega arith) (λ i e low inside. up_to i e low (omega arith)) (λ i e low inside. behind i e (omega arith) inside)
+      ∙ ap (λ (c : Claim). paint_of c byte) (sym is),
+)

@@ -1,11 +1,11 @@
 -- Claims that lie apart, with those joined that touch and have one rule.
 use Rattle.std.proofs.Common.{◌≡◌, ◌≢◌, ℕ, ◌+◌, ◌<◌, ◌≤◌, Bool, true, false, ◌&&◌, ◌||◌, ◌==◌, if◌then◌else◌, Option, Some, List, [], ◌∷◌, refl, sym, ◌∙◌, ap, subst, ⊎_elim, arith}
 use Rattle.std.specs.List.{All}
-use Rattle.std.proofs.lemmas.List.Elements.{All-head, All-tail}
-use Rattle.std.proofs.lemmas.Bool.{cases_lt, cases_Bool, and_parts, and_from, eqb-true, eq-eqb, ne_eqb, and_right, false≢true}
+use Rattle.std.proofs.lemmas.List.Elements.{All-nil, All-cons, All-head, All-tail}
+use Rattle.std.proofs.lemmas.Bool.{cases_lt, cases_Bool, cond_both, and_parts, and_from, eqb-true, eq-eqb, ne_eqb, and_right, false≢true}
 use Rattle.std.proofs.lemmas.Bool.Decides.{nat_tests}
 use Rattle.range_defs.specs.declared.Claim.{Claim}
-use Rattle.range_defs.specs.Places.{in_range}
+use Rattle.range_defs.specs.Places.{in_range, EndsInReach}
 use Rattle.range_defs.specs.Claims.{paint_of, lesser_paint, painted, BeginsApart, IsFillMap}
 use Rattle.range_defs.specs.ClaimLaws.{paint_either}
 use Rattle.rx_ranges.specs.Laying.{AreApart, HasFill}
@@ -92,6 +92,20 @@ kept-joined last (next ∷ laid) some apart =
       kept-joined next laid apart.1 apart.2,
     ))
     (cases_Bool (joins last next))
+
+-- and end in reach
+pub reach-joined : (last : Claim) (laid : List Claim) → EndsInReach last.range → All (λ (claim : Claim). EndsInReach claim.range) laid
+    → All (λ (claim : Claim). EndsInReach claim.range) (joined_to last laid)
+unfolding joined_to
+reach-joined last [] reach reaches = All-cons (λ (claim : Claim). EndsInReach claim.range) last [] reach (All-nil (λ (claim : Claim). EndsInReach claim.range))
+reach-joined last (next ∷ laid) reach reaches =
+    let Reaches : Claim → Type 0 = λ claim. EndsInReach claim.range in
+    let next_reach : EndsInReach next.range = All-head Reaches next laid reaches in
+    let rest : All Reaches laid = All-tail Reaches next laid reaches in
+    cond_both (joins last next) (joined_to (grown last next) laid) (last ∷ joined_to next laid) (All Reaches)
+    (λ touches. let at : next.range.at ≡ last.range.at + last.range.len = grind (arith, nat_tests) in
+    reach-joined (grown last next) laid (omega (arith, at, next_reach)) rest)
+    (λ apart. All-cons Reaches last (joined_to next laid) reach (reach-joined next laid next_reach rest))
 
 pub joins-both : (last next : Claim) → next.rule ≡ last.rule → next.range.at ≡ last.range.at + last.range.len → joins last next ≡ true
 joins-both last next rule at =

@@ -1,5 +1,4 @@
-pub mod Adding
-pub mod Gathering
+pub mod Merging
 pub mod Meeting
 pub mod Holding
 pub mod Paints

@@ -1,5 +1,6 @@
 //! Which rule fills which byte, as a sorted list of claims.
-ghost use Rattle.std.specs.Prelude.{◌≡◌, ℕ, All, IfOk};
+ghost use Rattle.std.specs.Prelude.{◌≡◌, ◌<◌, ◌≤◌, ℕ, All, IfOk, length};
+ghost use Rattle.std.specs.List.{AllWithin};
 ghost use Rattle.range_defs.specs.Claims.{painted, IsFillMap, HaveOneFill};
 ghost use Rattle.range_defs.specs.Places.{EndsInReach};
 
@@ -9,23 +10,24 @@ use range_defs::Claim;
 use std::alloc::Global;
 use std::marker::Model;
 
-/// The rule and fill of each byte: claims that are sorted, not empty and don't overlap; two that touch have different
-/// rules.
+/// The rule and fill of each byte: claims that are sorted, not empty, don't overlap and end in reach; two that touch
+/// have different rules.
 #[derive(Debug, Drop)]
 pub struct FillMap {
     claims: Vec<Claim>,
 }
 
 impl Model for FillMap {
-    ghost use Rattle.std.specs.Prelude.{List};
+    ghost use Rattle.std.specs.Prelude.{List, All};
     ghost use Rattle.range_defs.specs.declared.Claim.{Claim};
     ghost use Rattle.range_defs.specs.Claims.{IsFillMap};
+    ghost use Rattle.range_defs.specs.Places.{EndsInReach};
 
     ghost Value = { List Claim };
 
     ghost view = { λ m. m.claims.items };
 
-    ghost invariant = { λ m. IsFillMap m.claims.items };
+    ghost invariant = { λ m. IsFillMap m.claims.items × All (λ claim. EndsInReach claim.range) m.claims.items };
 }
 
 impl FillMap {
@@ -50,17 +52,22 @@ impl FillMap {
     pub fn holds(&self, byte: u64) -> Option<(u32, u8)>
         ensures { result ≡ painted self.now byte }
     {
-        for claim in &self.claims {
-            if claim.range.at <= byte && byte - claim.range.at < claim.range.len {
-                return Some((claim.rule, claim.fill));
-            }
+        let begun = begun_by(&self.claims, byte);
+        if begun == 0 {
+            return None;
         }
-        None
+        let claim = self.claims[begun - 1];
+        if byte - claim.range.at < claim.range.len {
+            Some((claim.rule, claim.fill))
+        } else {
+            None
+        }
     }
 
     /// The map with these claims.
     pub fn from_sorted(items: Vec<Claim>) -> Self
-        requires { IsFillMap items.items }
+        requires kept { IsFillMap items.items }
+        requires reach { All (λ claim. EndsInReach claim.range) items.items }
         ensures { result ≡ items.items }
     {
         FillMap { claims: items }
@@ -70,7 +77,18 @@ impl FillMap {
     pub fn items(&self) -> &[Claim]
         ensures items { result.now ≡ self.now }
         ensures kept { IsFillMap self.now }
+        ensures reach { All (λ claim. EndsInReach claim.range) self.now }
     {
         self.claims.as_slice()
     }
+}
+
+/// How many claims of a map begin at a byte or in front of it: they are its first ones.
+fn begun_by(claims: &[Claim], byte: u64) -> usize
+    requires { IsFillMap claims.now }
+    ensures within { result ≤ length claims.now }
+    ensures begun { AllWithin (λ claim. claim.range.at ≤ byte) claims.now 0 result }
+    ensures behind { AllWithin (λ claim. byte < claim.range.at) claims.now result (length claims.now) }
+{
+    claims.partition_point(|claim| claim.range.at <= byte)
 }

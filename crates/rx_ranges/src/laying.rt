@@ -101,6 +101,7 @@ pub(crate) fn joined(alloc: Global, laid: &[Claim]) -> Result<Vec<Claim>, NoMemo
     requires one_fill { (fill : ℕ → ℕ) × All (HasFill fill) laid.now }
     ensures bytes { IfOk result (λ out. (byte : ℕ) → painted out.items byte ≡ painted laid.now byte) }
     ensures kept { IfOk result (λ out. IsFillMap out.items) }
+    ensures reach_after { IfOk result (λ out. All (λ claim. EndsInReach claim.range) out.items) }
 {
     let mut out = Vec::new(alloc);
     let Some((first, others)) = laid.split_first() else {

@@ -1,29 +1,30 @@
 //! Sets of bytes, as sorted lists of ranges.
-ghost use Rattle.std.specs.Prelude.{◌≡◌, ◌+◌, ◌<◌, ◌||◌, ◌&&◌, ℕ, All, IfOk};
-ghost use Rattle.rx_ranges.specs.Hull.{hull};
-ghost use Rattle.range_defs.specs.Places.{covers, in_range, IsLeast, IsRangeList, EndsInReach};
+ghost use Rattle.std.specs.Prelude.{◌≡◌, ◌+◌, ◌++◌, ◌&&◌, ℕ, All, IfOk};
+ghost use Rattle.std.specs.List.Sorted.{IsNonDecreasingBy};
+ghost use Rattle.rx_ranges.specs.Hull.{hull, unless_empty};
+ghost use Rattle.range_defs.specs.Places.{covers, IsLeast, IsRangeList, EndsInReach};
 
 use crate::text::NoMemory;
 use range_defs::Range;
 use std::alloc::Global;
 use std::marker::Model;
 
-/// A set of bytes: ranges that are sorted, not empty and don't touch.
+/// A set of bytes: ranges that are sorted, not empty, don't touch and end in reach.
 #[derive(Debug, Drop)]
 pub struct RangeList {
     ranges: Vec<Range>,
 }
 
 impl Model for RangeList {
-    ghost use Rattle.std.specs.Prelude.{List};
+    ghost use Rattle.std.specs.Prelude.{List, All};
     ghost use Rattle.range_defs.specs.declared.Range.{Range};
-    ghost use Rattle.range_defs.specs.Places.{IsRangeList};
+    ghost use Rattle.range_defs.specs.Places.{IsRangeList, EndsInReach};
 
     ghost Value = { List Range };
 
     ghost view = { λ l. l.ranges.items };
 
-    ghost invariant = { λ l. IsRangeList l.ranges.items };
+    ghost invariant = { λ l. IsRangeList l.ranges.items × All EndsInReach l.ranges.items };
 }
 
 impl RangeList {
@@ -33,13 +34,11 @@ impl RangeList {
         ensures bytes { IfOk result (λ list. (byte : ℕ) → covers list byte ≡ covers ranges.items byte) }
         ensures kept { IfOk result IsRangeList }
     {
-        let mut kept = Vec::new(alloc);
-        for range in &ranges {
-            if range.len > 0 {
-                kept = with_range(alloc, &kept, *range)?;
-            }
-        }
-        Ok(RangeList { ranges: kept })
+        let mut sorted = ranges;
+        sorted.sort_unstable_by_key(|range| range.at);
+        Ok(RangeList {
+            ranges: merged(alloc, &sorted)?,
+        })
     }
 
     /// The least byte that both sets have; None where they share none.
@@ -67,6 +66,7 @@ impl RangeList {
     pub fn items(&self) -> &[Range]
         ensures items { result.now ≡ self.now }
         ensures kept { IsRangeList self.now }
+        ensures reach { All EndsInReach self.now }
     {
         self.ranges.as_slice()
     }
@@ -80,31 +80,36 @@ fn end(range: Range) -> u64
     range.at + range.len
 }
 
-/// The ranges of a set with one more range added: it joins those that it overlaps or touches.
-fn with_range(alloc: Global, ranges: &[Range], range: Range) -> Result<Vec<Range>, NoMemory>
-    requires some { 0 < range.len }
-    requires reach { EndsInReach range }
-    requires kept_before { IsRangeList ranges.now }
-    requires reach_before { All EndsInReach ranges.now }
-    ensures bytes { IfOk result
-        (λ out. (byte : ℕ) → covers out.items byte ≡ (covers ranges.now byte || in_range range byte)) }
+/// The kept ranges of a set whose ranges are sorted by where they begin: those that overlap or touch are joined.
+fn merged(alloc: Global, sorted: &[Range]) -> Result<Vec<Range>, NoMemory>
+    requires reach { All EndsInReach sorted.now }
+    requires sorted { IsNonDecreasingBy (λ range. range.at) sorted.now }
+    ensures bytes { IfOk result (λ out. (byte : ℕ) → covers out.items byte ≡ covers sorted.now byte) }
     ensures kept { IfOk result (λ out. IsRangeList out.items) }
     ensures reach_after { IfOk result (λ out. All EndsInReach out.items) }
 {
     let mut out = Vec::new(alloc);
-    let mut added = range;
-    for next in ranges {
-        if end(*next) < added.at {
-            out.push(*next)?;
-        } else if end(added) < next.at {
-            out.push(added)?;
-            added = *next;
+    let mut last = Range { at: 0, len: 0 };
+    for next in sorted {
+        if next.at <= end(last) {
+            last = joined(last, *next);
         } else {
-            added = joined(added, *next);
+            push_range(&mut out, last)?;
+            last = *next;
         }
     }
-    out.push(added)?;
+    push_range(&mut out, last)?;
     Ok(out)
+}
+
+/// Appends a range, unless it is empty.
+fn push_range(out: &mut Vec<Range>, range: Range) -> Result<(), NoMemory>
+    ensures { IfOk result (λ _. out.new.items ≡ out.old.items ++ unless_empty range) }
+{
+    if range.len > 0 {
+        out.push(range)?;
+    }
+    Ok(())
 }
 
 /// The range from where the first of two begins to where the last ends.

@@ -5,7 +5,7 @@ use Rattle.range_defs.specs.declared.Claim.{Claim}
 use Rattle.range_defs.specs.Claims.{painted}
 use Rattle.range_defs.specs.Places.{EndsInReach}
 use Rattle.rx_ranges.specs.Laying.{AreApart, HasFill}
-use Rattle.rx_ranges.proofs.Joining.{joins, joined_to, painted-joined, kept-joined, joins-both, joins-rule, joins-away}
+use Rattle.rx_ranges.proofs.Joining.{joins, joined_to, painted-joined, kept-joined, reach-joined, joins-both, joins-rule, joins-away}
 use Rattle.rx_ranges.proofs.JoiningSteps.{so_far-grows, so_far-apart, so_far-done}
 use Rattle.rx_ranges.proofs.laying.joined.Goals as goal
 use Rattle.rx_ranges.proofs.laying.joined.Goals.{then-next-last+then-next-end, else-next-last+in_ok-push, else-next-last-via-then-next-last+else-next-end, else-next-last-via-else-next-last}
@@ -60,3 +60,11 @@ pub returns-clause-kept : goal.returns-clause-kept
 returns-clause-kept c =
     let apart : AreApart 0 (c.in-Some.first.now ∷ c.in-Some.others.now) = subst (λ (xs : List Claim). AreApart 0 xs) c.in-Some.ensures.cases.0 c.requires.apart in
     rw (written c) (kept-joined c.in-Some.first.now c.in-Some.others.now apart.1 apart.2)
+
+pub returns-clause-reach_after : goal.returns-clause-reach_after
+returns-clause-reach_after c =
+    let laid_reach : All Reaches (c.in-Some.first.now ∷ c.in-Some.others.now) =
+    All-same Reaches (c.in-Some.first.now ∷ c.in-Some.others.now) c.args.laid.now (sym c.in-Some.ensures.cases.0) c.requires.reach in
+    All-same Reaches c.push-2.new.self.items (joined_to c.in-Some.first.now c.in-Some.others.now) (written c)
+    (reach-joined c.in-Some.first.now c.in-Some.others.now (All-head Reaches c.in-Some.first.now c.in-Some.others.now laid_reach)
+    (All-tail Reaches c.in-Some.first.now c.in-Some.others.now laid_reach))

@@ -1,14 +1,22 @@
-use Rattle.std.proofs.Common.{arith}
-use Rattle.rx_ranges.proofs.Gathering.{gathered-more, gathered-same}
+use Rattle.std.proofs.Common.{◌∙◌, ap, rules}
+use Rattle.std.specs.List.Sorted.{IsNonDecreasingBy}
+use Rattle.std.proofs.lemmas.List.Elements.{All-same}
+use Rattle.std.proofs.lemmas.List.Sorted.{All-permutation, IsNonDecreasingBy-from_sort_by_key}
+use Rattle.range_defs.specs.Places.{covers, EndsInReach}
+use Rattle.rx_ranges.proofs.Merging.{covers-permutation}
 use Rattle.rx_ranges.proofs.ranges.RangeList.from_ranges.Goals as goal
-use Rattle.rx_ranges.proofs.ranges.RangeList.from_ranges.Goals.{then-range-gt0+in_ok-kept, else-range-gt0}
 
-pub loop-range-preserved : goal.loop-range-preserved
-loop-range-preserved c =
-    elim c.if-range-gt0.branch [
-      | then-range-gt0+in_ok-kept w ↦ rw w.kept-is
-          (gathered-more c.deref-range-items.result.now c.loop-range.kept.items _ c.loop-range.range-index (record { at = 0; len = 0 }) c.loop-range.invariant c.loop-range-test.true
-          (λ byte. rw w.deref.ensures.value at w.in_ok-kept.ensures.bytes byte) w.in_ok-kept.ensures.kept w.in_ok-kept.ensures.reach_after)
-      | else-range-gt0 w ↦ rw w.kept-is
-          (gathered-same c.deref-range-items.result.now c.loop-range.kept.items c.loop-range.range-index (record { at = 0; len = 0 }) c.loop-range.invariant c.loop-range-test.true (omega arith))
-    ]
+pub merged-requires-clause-reach : goal.merged-requires-clause-reach
+merged-requires-clause-reach c =
+    All-same EndsInReach c.deref.result.now c.sort_unstable_by_key.new.self.items c.deref.ensures.value
+    (All-permutation EndsInReach c.args.ranges.items c.sort_unstable_by_key.new.self.items c.sort_unstable_by_key.ensures.permutation c.requires)
+
+pub merged-requires-clause-sorted : goal.merged-requires-clause-sorted
+merged-requires-clause-sorted c =
+    rw c.deref.ensures.value
+    (IsNonDecreasingBy-from_sort_by_key (λ range. range.at) c.sort_unstable_by_key.new.self.items c.sort_unstable_by_key.ensures.sorted (λ a r q k. search rules))
+
+pub returns-clause-bytes : goal.returns-clause-bytes
+returns-clause-bytes c = λ byte.
+    c.in_ok-merged.ensures.bytes byte ∙ ap (λ ranges. covers ranges byte) c.deref.ensures.value
+    ∙ covers-permutation c.args.ranges.items c.sort_unstable_by_key.new.self.items byte c.sort_unstable_by_key.ensures.permutation
