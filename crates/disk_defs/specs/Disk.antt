@@ -1,5 +1,5 @@
 -- The disk: two areas, an image and a journal.
-use Rattle.std.specs.Prelude.{◌≡◌, ℕ, Option, IfSome, List, length}
+use Rattle.std.specs.Prelude.{◌≡◌, ℕ, ◌^◌, ◌<◌, Option, IfSome, List, length}
 use Rattle.std.specs.Option.{option_map}
 use Rattle.bytes_defs.specs.Bytes.{part}
 use Rattle.disk_defs.specs.declared.Area.{Area}
@@ -39,6 +39,10 @@ told_of area state = option_map (bytes_of area) (held state)
 -- the image, where the store tells it
 abbrev pub told_image : State → Option (List ℕ)
 told_image state = told_of Image state
+
+-- each size is a number of 64 bits
+abbrev pub SizesFit : State → Type 0
+SizesFit state = (area : Area) → size_of area state < 2 ^ 64
 
 -- what is told has the sizes
 abbrev pub TellsItsSizes : State → Type 0

@@ -1,20 +1,17 @@
 -- A store, a source and a sink in memory: what contracts see of them.
-use Rattle.std.specs.Prelude.{ℕ, Option, Some, List, [], length, Result, refl}
-use Rattle.disk_defs.specs.Count.{Faults, no_faults, one_more, faults_after_in}
-use Rattle.disk_defs.specs.Disk.{Held, State, TellsItsSizes}
-use Rattle.disk_defs.specs.declared.Area.{Area}
+use Rattle.std.specs.Prelude.{ℕ, ◌^◌, ◌<◌, Option, Some, List, [], length, refl}
+use Rattle.disk_defs.specs.Count.{Faults}
+use Rattle.disk_defs.specs.Disk.{Held, State, SizesFit, TellsItsSizes}
 use Rattle.disk_defs.specs.declared.Area.TheVariants.{Image, Journal}
 
--- a store in memory: what it holds, the numbers of the calls that fail, and how many calls were made and failed
+-- a store in memory: what it holds, whose sizes fit 64 bits, the numbers of the calls that fail, and how many
+-- calls were made and failed
 pub record StoreInMemory : Type 0 where
   pub held : Held
+  pub fits : (length held.image < 2 ^ 64) × (length held.journal < 2 ^ 64)
   pub failing : List ℕ
   pub calls : ℕ
   pub faults : Faults
-
--- a store with these bytes, before its first call
-abbrev pub store_holding : List ℕ → List ℕ → StoreInMemory
-store_holding image journal = record { held = record { image = image; journal = journal }; failing = []; calls = 0; faults = no_faults }
 
 -- a store in memory tells all that it holds
 abbrev pub state_in_memory : StoreInMemory → State
@@ -24,9 +21,9 @@ pub tells_its_sizes_in_memory : (store : StoreInMemory) → TellsItsSizes (state
 tells_its_sizes_in_memory store Image = refl
 tells_its_sizes_in_memory store Journal = refl
 
--- a store after a call on an area with this result that changed nothing
-abbrev pub after_call : {T E : Type 0} → Area → Result T E → StoreInMemory → StoreInMemory
-after_call area result store = record store { calls = one_more store.calls; faults = faults_after_in area result store.faults }
+pub sizes_fit_in_memory : (store : StoreInMemory) → SizesFit (state_in_memory store)
+sizes_fit_in_memory store Image = store.fits.0
+sizes_fit_in_memory store Journal = store.fits.1
 
 -- a source in memory: what is still to come, the number of the read that fails, and how many reads were made and failed
 pub record SourceInMemory : Type 0 where

@@ -1,7 +1,8 @@
 -- A store over files: what contracts see of it.
-use Rattle.std.specs.Prelude.{◌≡◌, ℕ, Bool, true, false, None, IsTrue}
+use Rattle.std.specs.Prelude.{◌≡◌, ℕ, min, Bool, true, false, None, IsTrue}
+use Rattle.std.proofs.Common.{arith}
 use Rattle.disk_defs.specs.Count.{Faults}
-use Rattle.disk_defs.specs.Disk.{State, TellsItsSizes}
+use Rattle.disk_defs.specs.Disk.{State, SizesFit, TellsItsSizes}
 use Rattle.disk_defs.specs.declared.Area.{Area}
 use Rattle.disk_defs.specs.declared.Area.TheVariants.{Image, Journal}
 use Rattle.rx_store.specs.declared.file_store.Opened.{Opened}
@@ -43,10 +44,18 @@ abbrev pub file_of : Area → StoreOfFiles → AreaFile
 file_of Image store = store.image
 file_of Journal store = store.journal
 
+-- the size of an area, as the number of 64 bits that it is
+abbrev pub size_in : AreaFile → ℕ
+size_in file = min file.size 18446744073709551615
+
 -- a store over files tells its sizes and no content
 abbrev pub state_of_files : StoreOfFiles → State
-state_of_files store = record { sizes = record { image = store.image.size; journal = store.journal.size }; told = None }
+state_of_files store = record { sizes = record { image = size_in store.image; journal = size_in store.journal }; told = None }
 
 pub tells_its_sizes_of_files : (store : StoreOfFiles) → TellsItsSizes (state_of_files store)
 tells_its_sizes_of_files store Image = tt
 tells_its_sizes_of_files store Journal = tt
+
+pub sizes_fit_of_files : (store : StoreOfFiles) → SizesFit (state_of_files store)
+sizes_fit_of_files store Image = omega arith
+sizes_fit_of_files store Journal = omega arith

@@ -2,3 +2,4 @@ pub mod Answers
 pub mod Files
 pub mod ReadFaults
 pub mod Readers
+pub mod Vecs

@@ -136,7 +136,7 @@ impl FileStore {
 }
 
 impl Store for FileStore {
-    ghost use Rattle.rx_store.specs.Files.{state_of_files, tells_its_sizes_of_files};
+    ghost use Rattle.rx_store.specs.Files.{sizes_fit_of_files, state_of_files, tells_its_sizes_of_files};
 
     ghost state = { state_of_files };
 
@@ -178,4 +178,6 @@ impl Store for FileStore {
     }
 
     ghost tells_its_sizes = { tells_its_sizes_of_files };
+
+    ghost sizes_fit = { sizes_fit_of_files };
 }

@@ -1,8 +1,8 @@
 //! A store in memory, whose calls fail where they are told to.
-ghost use Rattle.std.specs.Prelude.{◌≡◌, ◌+◌, ◌≤◌, length, vec_len, IfOk, OnOk, OnErr, IsErr, Contains};
+ghost use Rattle.std.specs.Prelude.{◌≡◌, ◌+◌, ◌≤◌, [], length, vec_len, IfOk, OnOk, OnErr, IsErr, Contains};
 ghost use Rattle.disk_defs.specs.Disk.{size_of, ReadsFrom};
-ghost use Rattle.disk_defs.specs.Count.{IsCountedIn, all_faults, one_more, faults_after_in};
-ghost use Rattle.disk_defs.specs.Memory.{store_holding, state_in_memory, after_call};
+ghost use Rattle.disk_defs.specs.Count.{IsCountedIn, all_faults, faults_after_in, no_faults, one_more};
+ghost use Rattle.disk_defs.specs.Memory.{state_in_memory};
 ghost use Rattle.bytes_defs.specs.Bytes.{part};
 
 use crate::NoMemory;
@@ -49,11 +49,13 @@ pub struct MemStore {
 
 impl Model for MemStore {
     ghost use Rattle.disk_defs.specs.Memory.{StoreInMemory};
+    ghost use Rattle.rx_store.specs.Vecs.{length_fits};
 
     ghost Value = { StoreInMemory };
 
     ghost view = { λ store. record {
       held = record { image = store.image.items; journal = store.journal.items };
+      fits = (length_fits store.image, length_fits store.journal);
       failing = store.calls.failing.items;
       calls = store.calls.made;
       faults = store.calls.faults;
@@ -73,7 +75,11 @@ impl MemStore {
         _log: u64,
     ) -> Result<MemStore, NoMemory>
         requires { vec_len journal ≤ room }
-        ensures { IfOk result (λ store. store ≡ store_holding image.items journal.items) }
+        ensures image { IfOk result (λ store. store.held.image ≡ image.items) }
+        ensures journal { IfOk result (λ store. store.held.journal ≡ journal.items) }
+        ensures failing { IfOk result (λ store. store.failing ≡ []) }
+        ensures calls { IfOk result (λ store. store.calls ≡ 0) }
+        ensures faults { IfOk result (λ store. store.faults ≡ no_faults) }
     {
         journal.reserve(room as usize - journal.len())?;
         Ok(MemStore {
@@ -89,7 +95,10 @@ impl MemStore {
 
     /// Lets the calls of the store with these numbers fail, counted from 1 over all of its calls, and no others.
     pub fn fail_at(&mut self, calls: Vec<u64>)
-        ensures { self.new ≡ record self.old { failing = calls.items } }
+        ensures failing { self.new.failing ≡ calls.items }
+        ensures held { self.new.held ≡ self.old.held }
+        ensures calls { self.new.calls ≡ self.old.calls }
+        ensures faults { self.new.faults ≡ self.old.faults }
     {
         self.calls.failing = calls;
     }
@@ -134,7 +143,10 @@ impl Store for MemStore {
         // A call fails exactly where its number was named.
         ensures fails { Contains self.old.failing (one_more self.old.calls) → IsErr result }
         ensures only_named { OnErr result (Contains self.old.failing (one_more self.old.calls)) }
-        ensures turn { self.new ≡ after_call area result self.old }
+        ensures held { self.new.held ≡ self.old.held }
+        ensures failing { self.new.failing ≡ self.old.failing }
+        ensures calls { self.new.calls ≡ one_more self.old.calls }
+        ensures faults { self.new.faults ≡ faults_after_in area result self.old.faults }
     {
         self.calls.begin(area)?;
         let len = match area {
@@ -153,7 +165,10 @@ impl Store for MemStore {
         // A call fails exactly where its number was named.
         ensures fails { Contains self.old.failing (one_more self.old.calls) → IsErr result }
         ensures only_named { OnErr result (Contains self.old.failing (one_more self.old.calls)) }
-        ensures turn { self.new ≡ after_call area result self.old }
+        ensures held { self.new.held ≡ self.old.held }
+        ensures failing { self.new.failing ≡ self.old.failing }
+        ensures calls { self.new.calls ≡ one_more self.old.calls }
+        ensures faults { self.new.faults ≡ faults_after_in area result self.old.faults }
     {
         self.calls.begin(area)?;
         match area {
@@ -163,7 +178,9 @@ impl Store for MemStore {
         Ok(())
     }
 
-    ghost use Rattle.disk_defs.specs.Memory.{tells_its_sizes_in_memory};
+    ghost use Rattle.disk_defs.specs.Memory.{sizes_fit_in_memory, tells_its_sizes_in_memory};
 
     ghost tells_its_sizes = { tells_its_sizes_in_memory };
+
+    ghost sizes_fit = { sizes_fit_in_memory };
 }

@@ -1,6 +1,6 @@
 //! The store.
 ghost use Rattle.std.specs.Prelude.{◌≡◌, ◌+◌, ◌≤◌, length, IfOk, OnOk};
-ghost use Rattle.disk_defs.specs.Disk.{State, size_of, ReadsFrom, TellsItsSizes};
+ghost use Rattle.disk_defs.specs.Disk.{State, size_of, ReadsFrom, SizesFit, TellsItsSizes};
 ghost use Rattle.disk_defs.specs.Count.{Faults, IsCountedIn};
 
 use disk_defs::{Area, Fault};
@@ -28,4 +28,7 @@ pub trait Store {
 
     /// What it tells has the sizes of the areas.
     ghost tells_its_sizes: { (store : Self) → TellsItsSizes (state store) };
+
+    /// The sizes of the areas fit 64 bits.
+    ghost sizes_fit: { (store : Self) → SizesFit (state store) };
 }
