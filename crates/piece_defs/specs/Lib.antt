@@ -4,3 +4,5 @@ pub mod Joined
 pub mod JoinedLaws
 pub mod OnePieces
 pub mod ByteLaws
+pub mod Put
+pub mod ThroughLaws

@@ -7,7 +7,7 @@ use Rattle.std.specs.Ordering.{nat_cmp}
 use Rattle.std.specs.declared.cmp.Ordering.TheVariants.{Less, Equal, Greater}
 use Rattle.std.proofs.Common.{ap, sym, ◌∙◌, subst, arith, ⊎_elim}
 use Rattle.std.proofs.Math.Nat.{mul-le-mul_right}
-use Rattle.std.proofs.lemmas.Bool.{leb-true, ltb-true, cases_lt}
+use Rattle.std.proofs.lemmas.Bool.{leb-true, cases_lt}
 use Rattle.std.proofs.lemmas.Bool.Decides.{Decides-eqb}
 use Rattle.std.proofs.lemmas.Cmp.{nat_cmp_total}
 use Rattle.std.proofs.lemmas.List.Elements.{All-cons, All-nil, recursion_from_All}
@@ -144,8 +144,7 @@ names_behind_root (entry ∷ entries) named =
 pub named_inodes_rise : (entries : List Entry) → list_all is_first_entry entries ≡ true → IsStrictlySortedBy nat_cmp (2 ∷ named_inodes entries)
 unfolding IsStrictlySortedBy
 named_inodes_rise entries named =
-    let numbers : List ℕ = map (λ entry. entry.inode) entries in
-    (
+    let numbers : List ℕ = map (λ entry. entry.inode) entries in (
       recursion_from_All (λ number. nat_cmp 2 number ≡ Less) (named_inodes entries) (distinct_all nat_cmp (λ number. nat_cmp 2 number ≡ Less) numbers (names_behind_root entries named)),
       distinct_sorted nat_cmp nat_cmp_total numbers,
     )
