@@ -12,6 +12,7 @@ ghost use Rattle.redact_cmd.specs.Refusals.{IsPlanRefusal};
 
 use crate::plan::{guarded_byte, make_plan};
 use crate::rules::read_rule;
+use crate::status::status_of_reading;
 use crate::words::parse_words;
 use cmd_defs::{Command, PlanRefusal, Status};
 use first_reader::read_tree;
@@ -75,7 +76,7 @@ fn plan_command<S: Store, R: Source, K: Sink>(
     };
     let tree = match read_tree(alloc, store) {
         Ok(tree) => tree,
-        Err(fault) => return Status::from(fault),
+        Err(fault) => return status_of_reading(fault),
     };
     let plan = match unguarded_plan(alloc, &tree, &rule) {
         Ok(plan) => plan,

@@ -2,6 +2,7 @@
 ghost use Rattle.std.specs.Prelude.{◌≡◌, ◌≤◌, length, OnOk, OnErr};
 ghost use Rattle.disk_defs.specs.Count.{Rose};
 ghost use Rattle.disk_defs.specs.Stream.{taken_with, TookPrefixOf};
+ghost use Rattle.redact_cmd.specs.Reading.{status_of_reading};
 ghost use Rattle.cmd_defs.specs.Status.{status_line, refusal_line, plain_text};
 
 use arrayvec::ArrayString;
@@ -10,17 +11,14 @@ use first_reader::FirstReadFault;
 use itoa::Buffer;
 use rx_store::{Fault, Sink, write_all};
 
-impl From<FirstReadFault> for Status {
-    ghost use Rattle.redact_cmd.specs.Reading.{status_of_reading};
-
-    ghost from_gives = { λ fault status. status ≡ status_of_reading fault };
-
-    fn from(fault: FirstReadFault) -> Status {
-        match fault {
-            FirstReadFault::Device => Status::DeviceFault,
-            FirstReadFault::NoMemory => Status::NoMemory,
-            FirstReadFault::OtherForm => Status::NotBuilt,
-        }
+/// The status of a fault of reading the image.
+pub(crate) fn status_of_reading(fault: FirstReadFault) -> Status
+    ensures { result ≡ status_of_reading fault }
+{
+    match fault {
+        FirstReadFault::Device => Status::DeviceFault,
+        FirstReadFault::NoMemory => Status::NoMemory,
+        FirstReadFault::OtherForm => Status::NotBuilt,
     }
 }
 
