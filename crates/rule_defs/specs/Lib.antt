@@ -1,2 +1,5 @@
+pub mod FirstLine
+pub mod Numbered
 pub mod Reads
+pub mod ReadsLaws
 pub mod Settle

@@ -1,6 +1,10 @@
 //! Rules: what they ask of a file, what they do to it, and how their text reads.
 #![tactic(auto)]
 
+pub mod laws;
+pub mod rules;
+
+pub use rules::Rules;
 use rx_ranges::Text;
 
 /// What a rule asks of a file.

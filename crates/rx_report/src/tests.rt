@@ -1,5 +1,5 @@
 //! The report of a small plan.
-ghost use Rattle.std.specs.Prelude.{◌≡◌, [], ◌∷◌, IfOk};
+ghost use Rattle.std.specs.Prelude.{◌≡◌};
 
 use super::*;
 use rx_ranges::{FillMap, ListKind, Listing, Range, Text};

@@ -1,7 +1,7 @@
 use Rattle.std.proofs.Common.{sym, subst, refl, ◌∙◌}
-use Rattle.redact_cmd.proofs.FirstLines.{other_text-of_line, other_high, other_low, other_name, first_form, on_none}
-use Rattle.redact_cmd.specs.FirstLine.{IsOtherLine}
-use Rattle.redact_cmd.proofs.rules.first_line_of.Goals as goal
+use Rattle.rule_parse.proofs.FirstLines.{other_text-of_line, other_high, other_low, other_name, first_form, on_none}
+use Rattle.rule_defs.specs.FirstLine.{IsOtherLine}
+use Rattle.rule_parse.proofs.first_form.first_line_of.Goals as goal
 
 pub returns-in_err-name-clause-none : goal.returns-in_err-name-clause-none
 returns-in_err-name-clause-none c =

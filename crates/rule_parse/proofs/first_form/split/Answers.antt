@@ -1,5 +1,5 @@
-use Rattle.redact_cmd.proofs.FirstLines.{other_opening, other_length, other_middle, line-parts, on_none}
-use Rattle.redact_cmd.proofs.rules.split.Goals as goal
+use Rattle.rule_parse.proofs.FirstLines.{other_opening, other_length, other_middle, line-parts, on_none}
+use Rattle.rule_parse.proofs.first_form.split.Goals as goal
 
 pub returns-in_err-quoted-clause-none : goal.returns-in_err-quoted-clause-none
 returns-in_err-quoted-clause-none c = on_none _ (other_opening c.args.line.now c.in_err-quoted.ensures.cases)

@@ -1,20 +1,16 @@
-//! Reads the rule text.
-ghost use Rattle.std.specs.Prelude.{◌≡◌, ◌≢◌, Err, ℕ, ◌+◌, ◌*◌, ◌<◌, ◌≤◌, ◌&&◌, ◌∷◌, [], List, Some, None, IfSome, IfNone, IfOk, IfErr, OnOk, IsErrOf, IsTrue, length};
+//! The first form of a rule text.
+ghost use Rattle.std.specs.Prelude.{◌≡◌, ℕ, ◌+◌, ◌*◌, ◌<◌, ◌&&◌, [], ◌∷◌, List, Some, None, IfSome, IfNone, IfOk, IsTrue, length};
 ghost use Rattle.std.specs.List.{list_all};
-ghost use Rattle.disk_defs.specs.Count.{Rose};
-ghost use Rattle.rule_defs.specs.Reads.{is_name_byte, is_plain_name, hex_value, first_line, first_rule, IsFirstLine, Reads, SaysNoRules};
-ghost use Rattle.redact_cmd.specs.FirstLine.{without_end, IsOtherLine};
-ghost use Rattle.redact_cmd.specs.Refusals.{IsTextRefusal};
+ghost use Rattle.rule_defs.specs.FirstLine.{without_end, IsOtherLine};
+ghost use Rattle.rule_defs.specs.Reads.{is_name_byte, is_plain_name, hex_value, first_line, first_rule, IsFirstLine};
 
-use cmd_defs::Status;
-use rule_defs::{Action, Condition, Rule};
+use rule_defs::{Action, Condition, Rule, Rules};
 use rx_ranges::{NoMemory, Text};
-use rx_store::{ReadError, Source, read_to_end};
 use std::alloc::Global;
 
 /// The length of the longest text in the first form: FILENAME and a quote, a name of 255 bytes, a quote, FILL and 0x,
 /// two digits and a line feed.
-const MAX_TEXT: usize = 10 + 255 + 9 + 2 + 1;
+pub(crate) const MAX_TEXT: usize = 10 + 255 + 9 + 2 + 1;
 
 /// A text without the line feed that may end it.
 fn trimmed(text: &[u8]) -> &[u8]
@@ -68,7 +64,7 @@ fn is_plain(name: &[u8]) -> bool
 }
 
 /// The name and the fill of a text in the first form.
-fn first_line_of(text: &[u8]) -> Option<(&[u8], u8)>
+pub(crate) fn first_line_of(text: &[u8]) -> Option<(&[u8], u8)>
     ensures found { IfSome result (λ line. IsFirstLine text.now line.0.now line.1) }
     ensures none { IfNone result ((name : List ℕ) (fill : ℕ) → ¬ (IsFirstLine text.now name fill)) }
 {
@@ -80,42 +76,17 @@ fn first_line_of(text: &[u8]) -> Option<(&[u8], u8)>
     Some((name, fill))
 }
 
-/// The name of a rule as text.
+/// The rules of a text in the first form.
 #[tactic(auto, using(crate::proofs::FirstLines::plain_text))]
-fn rule_named(alloc: Global, name: &[u8], fill: u8) -> Result<Rule, NoMemory>
+pub(crate) fn rules_of(alloc: Global, name: &[u8], fill: u8) -> Result<Rules, NoMemory>
     requires { IsTrue (is_plain_name name.now) }
-    ensures { IfOk result (λ rule. rule ≡ first_rule name.now fill) }
+    ensures { IfOk result (λ rules. rules ≡ first_rule name.now fill ∷ []) }
 {
     let name = std::str::from_utf8(name).unwrap();
-    Ok(Rule {
+    let rule = Rule {
         number: 1,
         condition: Condition::FileName(Text::from_str(alloc, name)?),
         action: Action::Fill(fill),
-    })
-}
-
-/// Reads the rule text to its end: the one rule of a text in the first form. NotBuilt comes exactly where the text has
-/// another form; SourceFault where the source failed.
-pub(crate) fn read_rule<R: Source>(alloc: Global, source: &mut R) -> Result<Rule, Status>
-    ensures read { IfOk result (λ rule. IfSome (R.rest source.old) (λ text. Reads text (rule ∷ []))) }
-    ensures ended { OnOk result (IfSome (R.rest source.new) (λ rest. rest ≡ [])) }
-    ensures unbuilt { IsErrOf result Status.NotBuilt → IfSome (R.rest source.old) SaysNoRules }
-    ensures refusals { IfErr result IsTextRefusal }
-    ensures counts { R.faults source.old ≤ R.faults source.new }
-    ensures cause { IsErrOf result Status.SourceFault → Rose (R.faults source.old) (R.faults source.new) }
-    ensures calm { result ≢ Err Status.SourceFault → R.faults source.new ≡ R.faults source.old }
-{
-    let text = match read_to_end(alloc, source, MAX_TEXT) {
-        Ok(Some(text)) => text,
-        Ok(None) => return Err(Status::NotBuilt),
-        Err(ReadError::Fault) => return Err(Status::SourceFault),
-        Err(ReadError::NoMemory) => return Err(Status::NoMemory),
     };
-    let Some((name, fill)) = first_line_of(&text) else {
-        return Err(Status::NotBuilt);
-    };
-    match rule_named(alloc, name, fill) {
-        Ok(rule) => Ok(rule),
-        Err(_) => Err(Status::NoMemory),
-    }
+    Ok(Rules::from_vec(vec![in alloc; rule]?))
 }
