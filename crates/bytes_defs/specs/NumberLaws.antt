@@ -1,5 +1,5 @@
 -- What a number at a place is in a part of the bytes, and what a read of it with `byteorder` gives.
-use Rattle.std.specs.Prelude.{◌≡◌, length, ◌-◌, ℕ, zero, suc, ◌+◌, ◌*◌, ◌^◌, ◌<◌, ◌≤◌, ℤ, List, take, drop, slice_index, refl}
+use Rattle.std.specs.Prelude.{◌≡◌, length, ◌-◌, ℕ, zero, suc, ◌+◌, ◌^◌, ◌<◌, ◌≤◌, List, take, drop, slice_index, refl}
 use Rattle.std.proofs.Common.{ap, sym, ◌∙◌, arith}
 use Rattle.std.proofs.lemmas.List.{get_or-drop, get_or-take, length-drop}
 use Rattle.std.proofs.Math.Seq.{take-length}
