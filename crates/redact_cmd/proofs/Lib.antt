@@ -1,4 +1,3 @@
 pub mod Lines
-pub mod FirstLines
 pub mod Plans
 pub mod Guarded

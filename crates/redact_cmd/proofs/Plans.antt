@@ -9,7 +9,7 @@ use Rattle.cmd_defs.specs.Outcome.{IfBothTold}
 use Rattle.cmd_defs.specs.declared.status.PlanRefusal.TheVariants.{MeetsGuard}
 use Rattle.cmd_defs.specs.declared.status.Status.{Status}
 use Rattle.cmd_defs.specs.declared.status.Status.TheVariants.{Done, Usage, PlanRefused, DeviceFault, SourceFault, SinkFault, NoMemory, NotBuilt}
-use Rattle.redact_cmd.proofs.FirstLines.{one_reading}
+use Rattle.rule_defs.specs.ReadsLaws.{one_list_of_rules}
 
 -- a text that says no rules hasn't the form
 pub no_form-no_rules : (text image : Option (List ℕ)) → IfSome text SaysNoRules → IfBothTold text image HasNoForm

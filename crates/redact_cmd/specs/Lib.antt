@@ -1,3 +1,2 @@
-pub mod FirstLine
 pub mod Refusals
 pub mod Reading

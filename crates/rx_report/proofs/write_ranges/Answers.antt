@@ -16,5 +16,5 @@ loop-done-preserved g c = record {
   taken = taken-more range_line c.args.claims.now c.loop-done.done c.min-count.result c.as_bytes.result.now
       (g.K.Sink.taken c.args.sink.now) (g.K.Sink.taken c.loop-done.sink) _
       (c.as_bytes.ensures.value ∙ c.as_str.ensures.value ∙ c.page_of-page.ensures) c.loop-done.invariant.taken c.in_ok-write_all.ensures.taken;
-  calm = c.in_ok-write_all.ensures.calm ∙ c.loop-done.invariant.calm;
+  calm = c.in_ok-write_all.ensures.counted ∙ c.loop-done.invariant.calm;
 }
