@@ -3,33 +3,21 @@
 use Rattle.std.proofs.Common.{◌≡◌, ◌≢◌, ℕ, zero, suc, ◌+◌, ◌-◌, ◌<◌, ◌≤◌, Bool, true, false, ◌&&◌, ◌||◌, ◌==◌, cond, Option, Some, None, is_some, nat_le, List, [], ◌∷◌, refl, sym, ◌∙◌, ap, subst, ⊎_elim, arith}
 use Rattle.std.specs.List.{All}
 use Rattle.std.proofs.lemmas.List.Elements.{All-head, All-tail, All-cons, All-nil}
-use Rattle.std.proofs.lemmas.Bool.{cases_lt, cases_eq, cond_both, cond-true}
+use Rattle.std.proofs.lemmas.Bool.{cases_lt, cases_eq, cond_both, cond-true, eqb-true, eqb-false}
 use Rattle.std.proofs.lemmas.Bool.Decides.{nat_tests}
 use Rattle.range_defs.specs.declared.Range.{Range}
 use Rattle.range_defs.specs.declared.Claim.{Claim}
 use Rattle.range_defs.specs.Places.{in_range, covers}
 use Rattle.range_defs.specs.Claims.{paint_of, lesser_paint, painted, one_byte, BeginsApart, IsFillMap, NeighboursAgree, ranges_of, in_front, longest_claims}
 
-pub in_range-before : (range : Range) (byte : ℕ) → byte < range.at → in_range range byte ≡ false
-in_range-before range byte before = grind (arith, nat_tests)
-
-pub in_range-inside : (range : Range) (byte : ℕ) → range.at ≤ byte → byte < range.at + range.len → in_range range byte ≡ true
-in_range-inside range byte begun inside = grind (arith, nat_tests)
-
-pub in_range-behind : (range : Range) (byte : ℕ) → range.at + range.len ≤ byte → in_range range byte ≡ false
-in_range-behind range byte behind = grind (arith, nat_tests)
-
-pub paint_of-out : (claim : Claim) (byte : ℕ) → in_range claim.range byte ≡ false → paint_of claim byte ≡ None
-paint_of-out claim byte out = rw out refl
-
 pub paint_before : (claim : Claim) (byte : ℕ) → byte < claim.range.at → paint_of claim byte ≡ None
-paint_before claim byte before = paint_of-out claim byte (in_range-before claim.range byte before)
+paint_before claim byte before = grind (arith, nat_tests)
 
 pub paint_inside : (claim : Claim) (byte : ℕ) → claim.range.at ≤ byte → byte < claim.range.at + claim.range.len → paint_of claim byte ≡ Some (claim.rule, claim.fill)
-paint_inside claim byte begun inside = rw (in_range-inside claim.range byte begun inside) refl
+paint_inside claim byte begun inside = grind (arith, nat_tests)
 
 pub paint_behind : (claim : Claim) (byte : ℕ) → claim.range.at + claim.range.len ≤ byte → paint_of claim byte ≡ None
-paint_behind claim byte behind = paint_of-out claim byte (in_range-behind claim.range byte behind)
+paint_behind claim byte behind = grind (arith, nat_tests)
 
 -- a claim ends at most at this byte
 abbrev pub EndsBy : ℕ → Claim → Type 0
@@ -78,9 +66,6 @@ painted-past (claim ∷ claims) end byte within past =
 some_none : (paint : ℕ × ℕ) → Some paint ≡ None → ⊥
 some_none paint same = cc
 
-same_paint : (a b : ℕ × ℕ) → Some a ≡ Some b → (a.0 ≡ b.0) × (a.1 ≡ b.1)
-same_paint a b same = (cc, cc)
-
 -- a canonical list has no claim behind the byte from which on it paints no byte
 pub ends_where_painted : (claims : List Claim) (end : ℕ) → IsFillMap claims → ((byte : ℕ) → end ≤ byte → painted claims byte ≡ None)
     → All (λ (claim : Claim). claim.range.at + claim.range.len ≤ end) claims
@@ -95,93 +80,103 @@ ends_where_painted (claim ∷ claims) end kept out =
     All-cons (EndsBy end) claim claims fits
     (ends_where_painted claims end kept.2 (λ byte behind. sym (painted-after claim claims byte (omega arith)) ∙ out byte behind))
 
--- the byte right behind a claim has no paint or one of another rule
-rule-behind : (end rule : ℕ) (claims : List Claim) (paint : ℕ × ℕ) → BeginsApart end rule claims → IsFillMap claims → painted claims end ≡ Some paint → rule ≢ paint.0
-rule-behind end rule [] paint apart kept has = absurd (some_none paint (sym has))
-rule-behind end rule (claim ∷ claims) paint apart kept has =
-    ⊎_elim
-    (λ before. absurd (some_none paint (sym has ∙ painted-before (claim ∷ claims) end kept before)))
-    (λ begun. let at : end ≡ claim.range.at = omega (arith, apart.0) in
-    let first : painted (claim ∷ claims) claim.range.at ≡ Some paint = subst (λ (byte : ℕ). painted (claim ∷ claims) byte ≡ Some paint) at has in
-    let same = same_paint (claim.rule, claim.fill) paint (sym (painted-first claim claims kept) ∙ first) in
-    λ other. apart.1 at (other ∙ sym same.0))
-    (cases_lt end claim.range.at)
+-- the claim with its first byte left out
+abbrev shorter : Claim → Claim
+shorter claim = record { range = record { at = suc claim.range.at; len = claim.range.len - 1 }; rule = claim.rule; fill = claim.fill }
 
--- whether two lists paint each byte alike
-abbrev PaintAlike : List Claim → List Claim → Type 0
-PaintAlike a b = (byte : ℕ) → painted a byte ≡ painted b byte
+-- the claims without one byte, in front of which none begins
+abbrev cut : ℕ → List Claim → List Claim
+cut from [] = []
+cut from (claim ∷ claims) = cond (claim.range.at == from) (cond (claim.range.len == 1) claims (shorter claim ∷ claims)) (claim ∷ claims)
 
--- where canonical lists paint alike, neither begins later, and then no first claim ends later
-begins_no_later : (claim other : Claim) (claims others : List Claim) → IsFillMap (claim ∷ claims) → IsFillMap (other ∷ others)
-    → PaintAlike (claim ∷ claims) (other ∷ others) → claim.range.at ≤ other.range.at
-begins_no_later claim other claims others kept kept_other alike =
-    ⊎_elim
-    (λ before. absurd (some_none (other.rule, other.fill)
-    (sym (painted-first other others kept_other) ∙ sym (alike other.range.at) ∙ painted-before (claim ∷ claims) other.range.at kept before)))
-    (λ begun. begun)
-    (cases_lt other.range.at claim.range.at)
+-- what holds of claims that lie behind a byte, of a longer one with its first byte left out, and of the others behind one
+-- of one byte, holds of the claims without the byte
+cut-both : (P : List Claim → Type 0) (from : ℕ) (claim : Claim) (claims : List Claim) → IsFillMap (claim ∷ claims)
+    → (claim.range.at ≡ from → claim.range.len ≡ 1 → P claims) → (claim.range.at ≡ from → 1 < claim.range.len → P (shorter claim ∷ claims))
+    → (claim.range.at ≢ from → P (claim ∷ claims)) → P (cut from (claim ∷ claims))
+cut-both P from claim claims kept one long other =
+    cond_both (claim.range.at == from) (cond (claim.range.len == 1) claims (shorter claim ∷ claims)) (claim ∷ claims) P
+    (λ at. cond_both (claim.range.len == 1) claims (shorter claim ∷ claims) P
+    (λ len. one (eqb-true claim.range.at from at) (eqb-true claim.range.len 1 len))
+    (λ len. let more : claim.range.len ≢ 1 = eqb-false claim.range.len 1 len in long (eqb-true claim.range.at from at) (omega (arith, kept.0))))
+    (λ away. other (eqb-false claim.range.at from away))
 
-ends_no_later : (claim other : Claim) (claims others : List Claim) → IsFillMap (claim ∷ claims) → IsFillMap (other ∷ others)
-    → PaintAlike (claim ∷ claims) (other ∷ others) → claim.range.at ≡ other.range.at → claim.rule ≡ other.rule → claim.range.len ≤ other.range.len
-ends_no_later claim other claims others kept kept_other alike at rule =
-    ⊎_elim
-    (λ shorter. let end : ℕ = other.range.at + other.range.len in
-    let has : painted others end ≡ Some (claim.rule, claim.fill) =
-    sym (painted-after other others end (omega arith)) ∙ sym (alike end) ∙ painted-inside claim claims end kept (omega arith) (omega arith) in
-    absurd (rule-behind end other.rule others (claim.rule, claim.fill) kept_other.1 kept_other.2 has (sym rule)))
-    (λ long. long)
-    (cases_lt other.range.len claim.range.len)
+cut-kept : (from : ℕ) (claims : List Claim) → IsFillMap claims → BeginsFrom from claims → IsFillMap (cut from claims) × BeginsFrom (suc from) (cut from claims)
+cut-kept from [] kept begins = (tt, tt)
+cut-kept from (claim ∷ claims) kept begins =
+    cut-both (λ list. IsFillMap list × BeginsFrom (suc from) list) from claim claims kept
+    (λ at one. (kept.2, begins_from (suc from) (claim.range.at + claim.range.len) claim.rule claims (omega arith) kept.1))
+    (λ at long. let same : claim.range.at + claim.range.len ≡ suc claim.range.at + (claim.range.len - 1) = omega arith in
+    ((omega arith, subst (λ (end : ℕ). BeginsApart end claim.rule claims) same kept.1, kept.2), omega arith))
+    (λ away. (kept, omega arith))
 
-same_claim : (a b : Claim) → a.range.at ≡ b.range.at → a.range.len ≡ b.range.len → a.rule ≡ b.rule → a.fill ≡ b.fill → a ≡ b
-same_claim a b at len rule fill =
-    let parts : record { range = record { at = a.range.at; len = a.range.len }; rule = a.rule; fill = a.fill }
-    ≡ record { range = record { at = b.range.at; len = b.range.len }; rule = b.rule; fill = b.fill } = cc in
-    parts
+cut-painted : (from byte : ℕ) (claims : List Claim) → from < byte → painted (cut from claims) byte ≡ painted claims byte
+cut-painted from byte [] behind = refl
+cut-painted from byte (claim ∷ claims) behind = grind (arith, nat_tests)
+
+in_front-apart : (claim : Claim) (claims : List Claim) → claim.range.len ≡ 1 → BeginsApart (claim.range.at + claim.range.len) claim.rule claims
+    → claim ∷ claims ≡ in_front claim.range.at (Some (claim.rule, claim.fill)) claims
+in_front-apart claim [] one apart = grind (arith, nat_tests)
+in_front-apart claim (next ∷ claims) one apart = grind (arith, nat_tests)
+
+in_front-joins : (claim : Claim) (claims : List Claim) → 0 < claim.range.len
+    → claim ∷ claims ≡ in_front claim.range.at (Some (claim.rule, claim.fill)) (shorter claim ∷ claims)
+in_front-joins claim claims some =
+    let same : suc (claim.range.len - 1) ≡ claim.range.len = omega arith in
+    grind (arith, nat_tests)
+
+-- with the byte's paint in front they are the claims again
+cut-front : (from : ℕ) (claims : List Claim) → IsFillMap claims → BeginsFrom from claims → claims ≡ in_front from (painted claims from) (cut from claims)
+cut-front from [] kept begins = refl
+cut-front from (claim ∷ claims) kept begins =
+    cut-both (λ list. claim ∷ claims ≡ in_front from (painted (claim ∷ claims) from) list) from claim claims kept
+    (λ at one. rw (← at, painted-first claim claims kept) (in_front-apart claim claims one kept.1))
+    (λ at long. rw (← at, painted-first claim claims kept) (in_front-joins claim claims kept.0))
+    (λ away. rw (painted-before (claim ∷ claims) from kept (omega arith)) refl)
+
+-- a canonical list that begins at a byte or behind it, with the paints of a function from there on, is the list of the
+-- longest claims, where the function has no paint behind them
+same_as_longest : (paint : ℕ → Option (ℕ × ℕ)) (from count : ℕ) (claims : List Claim) → IsFillMap claims → BeginsFrom from claims
+    → ((byte : ℕ) → from ≤ byte → painted claims byte ≡ paint byte) → ((byte : ℕ) → from + count ≤ byte → paint byte ≡ None) → claims ≡ longest_claims paint from count
+unfolding longest_claims
+same_as_longest paint from zero [] kept begins same past = refl
+same_as_longest paint from zero (claim ∷ claims) kept begins same past =
+    absurd (some_none (claim.rule, claim.fill) (sym (painted-first claim claims kept) ∙ same claim.range.at begins ∙ past claim.range.at (omega arith)))
+same_as_longest paint from (suc count) claims kept begins same past =
+    let rest = cut-kept from claims kept begins in
+    cut-front from claims kept begins ∙ ap (λ first. in_front from first (cut from claims)) (same from (omega arith))
+    ∙ ap (in_front from (paint from)) (same_as_longest paint (suc from) count (cut from claims) rest.0 rest.1
+    (λ byte behind. cut-painted from byte claims behind ∙ same byte (omega arith)) (λ byte behind. past byte (omega arith)))
+
+begins_anywhere : (claims : List Claim) → BeginsFrom 0 claims
+begins_anywhere [] = tt
+begins_anywhere (claim ∷ claims) = omega arith
+
+-- a canonical list of claims that paints each byte as a function says, and no claim of which ends behind a byte, is
+-- the list of the longest claims in front of that byte
+pub same_as_longest_claims : (paint : ℕ → Option (ℕ × ℕ)) (end : ℕ) (claims : List Claim) → IsFillMap claims
+    → ((byte : ℕ) → painted claims byte ≡ paint byte) → All (λ claim. claim.range.at + claim.range.len ≤ end) claims
+    → claims ≡ longest_claims paint 0 end
+same_as_longest_claims paint end claims kept same within =
+    same_as_longest paint 0 end claims kept (begins_anywhere claims) (λ byte begun. same byte)
+    (λ byte past. sym (same byte) ∙ painted-past claims end byte within (omega arith))
+
+-- a byte behind which no claim of a list ends
+end_of : List Claim → ℕ
+end_of [] = 0
+end_of (claim ∷ claims) = claim.range.at + claim.range.len + end_of claims
+
+end_of-ends : (claims : List Claim) (end : ℕ) → end_of claims ≤ end → All (EndsBy end) claims
+unfolding end_of
+end_of-ends [] end fits = All-nil (EndsBy end)
+end_of-ends (claim ∷ claims) end fits = All-cons (EndsBy end) claim claims (omega (arith, fits)) (end_of-ends claims end (omega (arith, fits)))
 
 -- two canonical lists of claims that paint each byte alike are one
 pub same_fill_map : (a b : List Claim) → IsFillMap a → IsFillMap b → ((byte : ℕ) → painted a byte ≡ painted b byte) → a ≡ b
-same_fill_map [] [] kept_a kept_b alike = refl
-same_fill_map [] (other ∷ others) kept_a kept_b alike =
-    absurd (some_none (other.rule, other.fill) (sym (painted-first other others kept_b) ∙ sym (alike other.range.at)))
-same_fill_map (claim ∷ claims) [] kept_a kept_b alike =
-    absurd (some_none (claim.rule, claim.fill) (sym (painted-first claim claims kept_a) ∙ alike claim.range.at))
-same_fill_map (claim ∷ claims) (other ∷ others) kept_a kept_b alike =
-    let unlike : PaintAlike (other ∷ others) (claim ∷ claims) = λ byte. sym (alike byte) in
-    let at : claim.range.at ≡ other.range.at =
-    omega (arith, begins_no_later claim other claims others kept_a kept_b alike, begins_no_later other claim others claims kept_b kept_a unlike) in
-    let paint = same_paint (claim.rule, claim.fill) (other.rule, other.fill)
-    (sym (painted-first claim claims kept_a) ∙ alike claim.range.at ∙ ap (λ byte. painted (other ∷ others) byte) at ∙ painted-first other others kept_b) in
-    let len : claim.range.len ≡ other.range.len =
-    omega (arith, ends_no_later claim other claims others kept_a kept_b alike at paint.0, ends_no_later other claim others claims kept_b kept_a unlike (sym at) (sym paint.0)) in
-    let rest : PaintAlike claims others =
-    λ byte. ⊎_elim
-    (λ before. tail-before claim claims byte kept_a before ∙ sym (tail-before other others byte kept_b (omega arith)))
-    (λ behind. sym (painted-after claim claims byte behind) ∙ alike byte ∙ painted-after other others byte (omega arith))
-    (cases_lt byte (claim.range.at + claim.range.len)) in
-    let firsts : claim ≡ other = same_claim claim other at len paint.0 paint.1 in
-    let others_too : claims ≡ others = same_fill_map claims others kept_a.2 kept_b.2 rest in
-    cc
-
--- side by side, a canonical list gives one fill to one rule
-neighbours_agree : (claims : List Claim) → IsFillMap claims → NeighboursAgree (painted claims)
-neighbours_agree [] kept byte this next has has_next rule = absurd (some_none this (sym has))
-neighbours_agree (claim ∷ claims) kept byte this next has has_next rule =
-    let end : ℕ = claim.range.at + claim.range.len in
-    ⊎_elim
-    (λ before. absurd (some_none this (sym has ∙ painted-before (claim ∷ claims) byte kept before)))
-    (λ begun. ⊎_elim
-    (λ inside. let is = same_paint this (claim.rule, claim.fill) (sym has ∙ painted-inside claim claims byte kept begun inside) in
-    ⊎_elim
-    (λ inside_next. is.1 ∙ sym (same_paint next (claim.rule, claim.fill) (sym has_next ∙ painted-inside claim claims (suc byte) kept (omega arith) inside_next)).1)
-    (λ past. let at : suc byte ≡ end = omega arith in
-    let behind : painted claims end ≡ Some next =
-    ap (λ (b : ℕ). painted claims b) (sym at) ∙ sym (painted-after claim claims (suc byte) past) ∙ has_next in
-    absurd (rule-behind end claim.rule claims next kept.1 kept.2 behind (sym is.0 ∙ rule)))
-    (cases_lt (suc byte) end))
-    (λ behind. neighbours_agree claims kept.2 byte this next (sym (painted-after claim claims byte behind) ∙ has)
-    (sym (painted-after claim claims (suc byte) (omega arith)) ∙ has_next) rule)
-    (cases_lt byte end))
-    (cases_lt byte claim.range.at)
+same_fill_map a b kept_a kept_b alike =
+    let end : ℕ = end_of a + end_of b in
+    same_as_longest_claims (painted b) end a kept_a alike (end_of-ends a end (omega arith))
+    ∙ sym (same_as_longest_claims (painted b) end b kept_b (λ byte. refl) (end_of-ends b end (omega arith)))
 
 -- a byte with this paint is put in front of claims: the list is canonical again
 in_front-kept : (from : ℕ) (paint : Option (ℕ × ℕ)) (claims : List Claim) → IsFillMap claims → BeginsFrom (suc from) claims
@@ -252,11 +247,8 @@ paint_either true true paint rest = sym (lesser_twice paint rest)
 painted-in_front : (from : ℕ) (paint : Option (ℕ × ℕ)) (claims : List Claim) (byte : ℕ) → IsFillMap claims
     → ((this next : ℕ × ℕ) → paint ≡ Some this → painted claims (suc from) ≡ Some next → this.0 ≡ next.0 → this.1 ≡ next.1)
     → painted (in_front from paint claims) byte ≡ lesser_paint (cond (byte == from) paint None) (painted claims byte)
-painted-in_front from None claims byte kept agree =
-    elim (byte == from) as (λ same. painted claims byte ≡ lesser_paint (cond same None None) (painted claims byte)) [ true ↦ refl | false ↦ refl ]
-painted-in_front from (Some paint) [] byte kept agree =
-    let alone : in_range (record { at = from; len = 1 }) byte ≡ (byte == from) = grind (arith, nat_tests) in
-    rw alone refl
+painted-in_front from None claims byte kept agree = grind (arith, nat_tests)
+painted-in_front from (Some paint) [] byte kept agree = grind (arith, nat_tests)
 painted-in_front from (Some paint) (claim ∷ claims) byte kept agree =
     cond_both (claim.range.at == suc from && claim.rule == paint.0)
     (record { range = record { at = from; len = suc claim.range.len }; rule = paint.0; fill = paint.1 } ∷ claims) (one_byte from paint ∷ claim ∷ claims)
@@ -267,8 +259,7 @@ painted-in_front from (Some paint) (claim ∷ claims) byte kept agree =
     let fill : paint.1 ≡ claim.fill = agree paint (claim.rule, claim.fill) refl next (sym rule) in
     let joined : in_range (record { at = from; len = suc claim.range.len }) byte ≡ (byte == from || in_range claim.range byte) = grind (arith, nat_tests) in
     rw (joined, rule, ← fill) (paint_either (byte == from) (in_range claim.range byte) paint (painted claims byte)))
-    (λ misses. let alone : in_range (record { at = from; len = 1 }) byte ≡ (byte == from) = grind (arith, nat_tests) in
-    rw alone refl)
+    (λ misses. grind (arith, nat_tests))
 
 one_more_paint : (paint : ℕ → Option (ℕ × ℕ)) (from count byte : ℕ)
     → lesser_paint (cond (byte == from) (paint from) None) (cond (in_range (record { at = suc from; len = count }) byte) (paint byte) None)
@@ -293,10 +284,13 @@ longest-painted paint from (suc count) byte agree =
     cond_some true o p same = same
     cond_some false o p same = absurd cc
 
+inside_first : (end byte : ℕ) → byte < end → in_range (record { at = 0; len = end }) byte ≡ true
+inside_first end byte inside = grind (arith, nat_tests)
+
 -- and these paints, where side by side one rule has one fill
 pub longest_claims_paint : (paint : ℕ → Option (ℕ × ℕ)) (end byte : ℕ) → NeighboursAgree paint → byte < end → painted (longest_claims paint 0 end) byte ≡ paint byte
 longest_claims_paint paint end byte agree inside =
-    longest-painted paint 0 end byte agree ∙ cond-true (in_range (record { at = 0; len = end }) byte) (paint byte) None (in_range-inside (record { at = 0; len = end }) byte (omega arith) (omega arith))
+    longest-painted paint 0 end byte agree ∙ cond-true (in_range (record { at = 0; len = end }) byte) (paint byte) None (inside_first end byte inside)
 
 some-lesser_paint : (paint : ℕ × ℕ) (other : Option (ℕ × ℕ)) → true ≡ is_some (lesser_paint (Some paint) other)
 some-lesser_paint paint None = refl
@@ -319,7 +313,7 @@ covers-claims (claim ∷ claims) byte =
 pub longest_claims_claim : (paint : ℕ → Option (ℕ × ℕ)) (end byte : ℕ) → byte < end → is_some (painted (longest_claims paint 0 end) byte) ≡ is_some (paint byte)
 longest_claims_claim paint end byte inside =
     sym (covers-claims (longest_claims paint 0 end) byte) ∙ longest-covers paint 0 end byte
-    ∙ rw (in_range-inside (record { at = 0; len = end }) byte (omega arith) (omega arith)) refl
+    ∙ rw (inside_first end byte inside) refl
 
 none_from : (paint : Option (ℕ × ℕ)) → is_some paint ≡ false → paint ≡ None
 none_from None none = refl
@@ -327,24 +321,10 @@ none_from (Some paint) none = absurd cc
 
 longest-past : (paint : ℕ → Option (ℕ × ℕ)) (end byte : ℕ) → end ≤ byte → painted (longest_claims paint 0 end) byte ≡ None
 longest-past paint end byte past =
-    let out : in_range (record { at = 0; len = end }) byte ≡ false = in_range-behind (record { at = 0; len = end }) byte (omega arith) in
+    let out : in_range (record { at = 0; len = end }) byte ≡ false = grind (arith, nat_tests) in
     none_from (painted (longest_claims paint 0 end) byte)
     (sym (covers-claims (longest_claims paint 0 end) byte) ∙ longest-covers paint 0 end byte ∙ rw out refl)
 
 -- they end with the last byte
 pub longest_claims_ends : (paint : ℕ → Option (ℕ × ℕ)) (end : ℕ) → All (EndsBy end) (longest_claims paint 0 end)
 longest_claims_ends paint end = ends_where_painted (longest_claims paint 0 end) end (longest_claims_kept paint end) (longest-past paint end)
-
--- a canonical list of claims that paints each byte as a function says, and no claim of which ends behind a byte, is
--- the list of the longest claims in front of that byte
-pub same_as_longest_claims : (paint : ℕ → Option (ℕ × ℕ)) (end : ℕ) (claims : List Claim) → IsFillMap claims
-    → ((byte : ℕ) → painted claims byte ≡ paint byte) → All (λ claim. claim.range.at + claim.range.len ≤ end) claims
-    → claims ≡ longest_claims paint 0 end
-same_as_longest_claims paint end claims kept same within =
-    let agree : NeighboursAgree paint =
-    λ byte this next has has_next rule. neighbours_agree claims kept byte this next (same byte ∙ has) (same (suc byte) ∙ has_next) rule in
-    same_fill_map claims (longest_claims paint 0 end) kept (longest_claims_kept paint end)
-    (λ byte. ⊎_elim
-    (λ inside. same byte ∙ sym (longest_claims_paint paint end byte agree inside))
-    (λ past. painted-past claims end byte within past ∙ sym (longest-past paint end byte past))
-    (cases_lt byte end))

@@ -11,7 +11,7 @@ use Rattle.range_defs.specs.Places.{in_range, covers, BeginsBehind, IsRangeList,
 use Rattle.range_defs.specs.Claims.{painted, lesser_paint, BeginsApart, IsFillMap, ranges_of, longest_claims}
 use Rattle.range_defs.specs.Claims as claims
 use Rattle.range_defs.specs.ClaimLaws as laws
-use Rattle.range_defs.specs.ClaimLaws.{in_range-before, in_range-inside, in_range-behind, covers-claims, longest-covers, longest_claims_kept, longest_claims_ends, same_fill_map, same_as_longest_claims, ends_where_painted}
+use Rattle.range_defs.specs.ClaimLaws.{covers-claims, longest-covers, longest_claims_kept, longest_claims_ends, same_fill_map, same_as_longest_claims, ends_where_painted}
 
 -- a range ends at most at this byte
 abbrev pub EndsBy : ℕ → Range → Type 0
@@ -21,15 +21,13 @@ EndsBy end range = range.at + range.len ≤ end
 pub covers-before : (ranges : List Range) (byte : ℕ) → IsRangeList ranges → BeginsBehind byte ranges → covers ranges byte ≡ false
 covers-before [] byte kept before = refl
 covers-before (range ∷ []) byte kept before = grind (arith, nat_tests)
-covers-before (range ∷ next ∷ ranges) byte kept before =
-    let rest : covers (next ∷ ranges) byte ≡ false = covers-before (next ∷ ranges) byte kept.2 (omega (arith, kept.1, kept.0)) in
-    rw (in_range-before range byte before) rest
+covers-before (range ∷ next ∷ ranges) byte kept before = grind (arith, nat_tests, covers-before (next ∷ ranges) byte kept.2)
 
 pub covers-after : (range : Range) (ranges : List Range) (byte : ℕ) → range.at + range.len ≤ byte → covers (range ∷ ranges) byte ≡ covers ranges byte
-covers-after range ranges byte behind = rw (in_range-behind range byte behind) refl
+covers-after range ranges byte behind = grind (arith, nat_tests)
 
 pub covers-inside : (range : Range) (ranges : List Range) (byte : ℕ) → range.at ≤ byte → byte < range.at + range.len → covers (range ∷ ranges) byte ≡ true
-covers-inside range ranges byte begun inside = rw (in_range-inside range byte begun inside) refl
+covers-inside range ranges byte begun inside = grind (arith, nat_tests)
 
 -- ranges that end by a byte have none from there on
 pub covers-past : (end byte : ℕ) (ranges : List Range) → All (EndsBy end) ranges → end ≤ byte → covers ranges byte ≡ false
@@ -68,26 +66,18 @@ painted-as_claims (range ∷ ranges) byte =
     either true false = refl
     either false b = refl
 
-begins_apart : (end : ℕ) (ranges : List Range) → BeginsBehind end ranges → BeginsApart end 0 (as_claims ranges)
-unfolding as_claim
-begins_apart end [] behind = tt
-begins_apart end (range ∷ ranges) behind = (omega arith, λ at. absurd (omega arith))
-
 claims-kept : (ranges : List Range) → IsRangeList ranges → IsFillMap (as_claims ranges)
 unfolding as_claim
 claims-kept [] kept = tt
-claims-kept (range ∷ ranges) kept = (kept.0, begins_apart (range.at + range.len) ranges kept.1, claims-kept ranges kept.2)
-
-begins_behind : (end : ℕ) (ranges : List Range) → BeginsApart end 0 (as_claims ranges) → BeginsBehind end ranges
-unfolding as_claim
-begins_behind end [] apart = tt
-begins_behind end (range ∷ ranges) apart =
-    let away : end ≡ range.at → ⊥ = λ at. apart.1 at refl in omega (arith, apart.0)
+claims-kept (range ∷ []) kept = (kept.0, tt, tt)
+claims-kept (range ∷ next ∷ ranges) kept = (kept.0, (omega (arith, kept.1), λ at. absurd (omega (arith, kept.1))), claims-kept (next ∷ ranges) kept.2)
 
 ranges-kept : (ranges : List Range) → IsFillMap (as_claims ranges) → IsRangeList ranges
 unfolding as_claim
 ranges-kept [] kept = tt
-ranges-kept (range ∷ ranges) kept = (kept.0, begins_behind (range.at + range.len) ranges kept.1, ranges-kept ranges kept.2)
+ranges-kept (range ∷ []) kept = (kept.0, tt, tt)
+ranges-kept (range ∷ next ∷ ranges) kept =
+    let away : range.at + range.len ≡ next.at → ⊥ = λ at. kept.1.1 at refl in (kept.0, omega (arith, kept.1.0), ranges-kept (next ∷ ranges) kept.2)
 
 -- the longest ranges are the longest claims of the one paint
 in_front-claims : (byte : ℕ) (ranges : List Range) → as_claims (in_front byte ranges) ≡ claims.in_front byte (Some (0, 0)) (as_claims ranges)
@@ -150,7 +140,7 @@ longest_ranges_ends test end =
 -- and have the bytes that pass the test
 pub longest_ranges_covers : (test : ℕ → Bool) (end byte : ℕ) → byte < end → covers (longest_ranges test 0 end) byte ≡ test byte
 longest_ranges_covers test end byte inside =
-    let within : in_range (record { at = 0; len = end }) byte ≡ true = in_range-inside (record { at = 0; len = end }) byte (omega arith) (omega arith) in
+    let within : in_range (record { at = 0; len = end }) byte ≡ true = grind (arith, nat_tests) in
     ap (λ (list : List Range). covers list byte) (sym (ranges_of-as_claims (longest_ranges test 0 end)) ∙ ap ranges_of (longest-claims test 0 end))
     ∙ longest-covers (λ b. one_paint (test b)) 0 end byte ∙ rw within (passes (test byte))
   where

@@ -27,21 +27,11 @@ both-second a b byte out = ap (λ (t : Bool). covers a byte && t) out ∙ and_no
 -- the first range of one set lies in front of all of the other
 skip-first : (mine theirs : Range) (a b : List Range) (byte : ℕ) → mine.at + mine.len ≤ theirs.at → IsRangeList (theirs ∷ b)
     → both (mine ∷ a) (theirs ∷ b) byte ≡ both a (theirs ∷ b) byte
-skip-first mine theirs a b byte apart kept =
-    ⊎_elim
-    (λ before. let out : covers (theirs ∷ b) byte ≡ false = covers-before (theirs ∷ b) byte kept before in
-    both-second (mine ∷ a) (theirs ∷ b) byte out ∙ sym (both-second a (theirs ∷ b) byte out))
-    (λ behind. ap (λ (t : Bool). t && covers (theirs ∷ b) byte) (covers-after mine a byte (omega arith)))
-    (cases_lt byte theirs.at)
+skip-first mine theirs a b byte apart kept = grind (arith, nat_tests, covers-before (theirs ∷ b) byte kept)
 
 skip-second : (mine theirs : Range) (a b : List Range) (byte : ℕ) → theirs.at + theirs.len ≤ mine.at → IsRangeList (mine ∷ a)
     → both (mine ∷ a) (theirs ∷ b) byte ≡ both (mine ∷ a) b byte
-skip-second mine theirs a b byte apart kept =
-    ⊎_elim
-    (λ before. let out : covers (mine ∷ a) byte ≡ false = covers-before (mine ∷ a) byte kept before in
-    both-first (mine ∷ a) (theirs ∷ b) byte out ∙ sym (both-first (mine ∷ a) b byte out))
-    (λ behind. ap (λ (t : Bool). covers (mine ∷ a) byte && t) (covers-after theirs b byte (omega arith)))
-    (cases_lt byte mine.at)
+skip-second mine theirs a b byte apart kept = grind (arith, nat_tests, covers-before (mine ∷ a) byte kept)
 
 -- where the first ranges of both share the later one's first byte, that is the least
 found-here : (mine theirs : Range) (a b : List Range) → IsRangeList (mine ∷ a) → IsRangeList (theirs ∷ b)

@@ -6,7 +6,7 @@ use Rattle.std.proofs.lemmas.Bool.Decides.{nat_tests}
 use Rattle.range_defs.specs.declared.Claim.{Claim}
 use Rattle.range_defs.specs.Places.{in_range}
 use Rattle.range_defs.specs.Claims.{paint_of, lesser_paint, painted}
-use Rattle.range_defs.specs.ClaimLaws.{paint_of-out, paint_before, lesser-none}
+use Rattle.range_defs.specs.ClaimLaws.{paint_before, lesser-none}
 use Rattle.rx_ranges.specs.Laying.{AreApart, part_of, unless_empty}
 
 lesser_assoc-some : (a b c : ℕ × ℕ) → lesser_paint (lesser_paint (Some a) (Some b)) (Some c) ≡ lesser_paint (Some a) (lesser_paint (Some b) (Some c))
@@ -33,9 +33,7 @@ painted-take claims i d byte within =
     ∙ ap (λ paint. lesser_paint (painted (take i claims) byte) paint) (lesser-none (paint_of (get_or claims i d) byte))
 
 paint_of-empty : (claim : Claim) (byte : ℕ) → claim.range.len ≡ 0 → paint_of claim byte ≡ None
-paint_of-empty claim byte empty =
-    let out : in_range claim.range byte ≡ false = grind (arith, nat_tests) in
-    paint_of-out claim byte out
+paint_of-empty claim byte empty = grind (arith, nat_tests)
 
 pub kept-unless : (claim : Claim) → 0 < claim.range.len → unless_empty claim ≡ claim ∷ []
 unfolding unless_empty
@@ -57,19 +55,15 @@ painted-unless claim claims byte =
 -- what a part of a claim gives a byte
 pub part-in : (claim : Claim) (from to byte : ℕ) → from ≤ byte → byte < to → paint_of (part_of claim from to) byte ≡ paint_of claim byte
 unfolding part_of
-part-in claim from to byte begun inside =
-    let same : in_range (part_of claim from to).range byte ≡ in_range claim.range byte = grind (arith, nat_tests) in
-    ap (λ (b : Bool). cond b (Some (claim.rule, claim.fill)) None) same
+part-in claim from to byte begun inside = grind (arith, nat_tests)
 
 pub part-before : (claim : Claim) (from to byte : ℕ) → byte < from → paint_of (part_of claim from to) byte ≡ None
 unfolding part_of
-part-before claim from to byte before = paint_before (part_of claim from to) byte (omega arith)
+part-before claim from to byte before = grind (arith, nat_tests)
 
 pub part-behind : (claim : Claim) (from to byte : ℕ) → to ≤ byte → paint_of (part_of claim from to) byte ≡ None
 unfolding part_of
-part-behind claim from to byte behind =
-    let out : in_range (part_of claim from to).range byte ≡ false = grind (arith, nat_tests) in
-    paint_of-out (part_of claim from to) byte out
+part-behind claim from to byte behind = grind (arith, nat_tests)
 
 -- a part has no byte that the claim does not have
 pub part-out : (claim : Claim) (from to byte : ℕ) → paint_of claim byte ≡ None → paint_of (part_of claim from to) byte ≡ None
