@@ -17,24 +17,12 @@ use Rattle.range_defs.specs.ClaimLaws.{covers-claims, longest-covers, longest_cl
 abbrev pub EndsBy : ℕ → Range → Type 0
 EndsBy end range = range.at + range.len ≤ end
 
--- no byte in front of a canonical list is in it
-pub covers-before : (ranges : List Range) (byte : ℕ) → IsRangeList ranges → BeginsBehind byte ranges → covers ranges byte ≡ false
-covers-before [] byte kept before = refl
-covers-before (range ∷ []) byte kept before = grind (arith, nat_tests)
-covers-before (range ∷ next ∷ ranges) byte kept before = grind (arith, nat_tests, covers-before (next ∷ ranges) byte kept.2)
-
-pub covers-after : (range : Range) (ranges : List Range) (byte : ℕ) → range.at + range.len ≤ byte → covers (range ∷ ranges) byte ≡ covers ranges byte
-covers-after range ranges byte behind = grind (arith, nat_tests)
-
-pub covers-inside : (range : Range) (ranges : List Range) (byte : ℕ) → range.at ≤ byte → byte < range.at + range.len → covers (range ∷ ranges) byte ≡ true
-covers-inside range ranges byte begun inside = grind (arith, nat_tests)
-
 -- ranges that end by a byte have none from there on
 pub covers-past : (end byte : ℕ) (ranges : List Range) → All (EndsBy end) ranges → end ≤ byte → covers ranges byte ≡ false
 covers-past end byte [] ends past = refl
 covers-past end byte (range ∷ ranges) ends past =
     let fits : range.at + range.len ≤ end = All-head (EndsBy end) range ranges ends in
-    covers-after range ranges byte (omega arith) ∙ covers-past end byte ranges (All-tail (EndsBy end) range ranges ends) past
+    grind (arith, nat_tests, covers-past end byte ranges (All-tail (EndsBy end) range ranges ends))
 
 -- the ranges as claims of one rule with one fill
 as_claim : Range → Claim

@@ -1,10 +1,16 @@
 -- The least byte that two sets share.
-use Rattle.std.proofs.Common.{◌≡◌, ℕ, ◌+◌, ◌-◌, ◌<◌, ◌≤◌, Bool, true, false, ◌&&◌, max, Option, Some, None, List, ◌∷◌, length, drop, get_or, refl, sym, ◌∙◌, ap, subst, ⊎_elim, arith}
+use Rattle.std.proofs.Common.{◌≡◌, ℕ, ◌+◌, ◌-◌, ◌<◌, ◌≤◌, Bool, true, false, ◌&&◌, max, Option, Some, None, List, [], ◌∷◌, length, drop, get_or, refl, sym, ◌∙◌, ap, subst, ⊎_elim, arith}
 use Rattle.std.proofs.lemmas.List.{drop_more}
 use Rattle.std.proofs.lemmas.Bool.{cases_lt}
+use Rattle.std.proofs.lemmas.Bool.Decides.{nat_tests}
 use Rattle.range_defs.specs.declared.Range.{Range}
-use Rattle.range_defs.specs.Places.{covers, IsRangeList, IsLeast}
-use Rattle.range_defs.specs.RangeLaws.{covers-before, covers-after, covers-inside}
+use Rattle.range_defs.specs.Places.{covers, BeginsBehind, IsRangeList, IsLeast}
+
+-- no byte in front of a canonical list is in it
+covers-before : (ranges : List Range) (byte : ℕ) → IsRangeList ranges → BeginsBehind byte ranges → covers ranges byte ≡ false
+covers-before [] byte kept before = refl
+covers-before (range ∷ []) byte kept before = grind (arith, nat_tests)
+covers-before (range ∷ next ∷ ranges) byte kept before = grind (arith, nat_tests, covers-before (next ∷ ranges) byte kept.2)
 
 -- whether both sets have a byte
 abbrev pub both : List Range → List Range → ℕ → Bool
@@ -13,16 +19,6 @@ both a b byte = covers a byte && covers b byte
 -- what two sets share is what is left of them shares
 abbrev pub Left : List Range → List Range → ℕ → ℕ → Type 0
 Left a b left right = IsRangeList (drop left a) × IsRangeList (drop right b) × ((byte : ℕ) → both a b byte ≡ both (drop left a) (drop right b) byte)
-
-and_no : (a : Bool) → (a && false) ≡ false
-and_no true = refl
-and_no false = refl
-
-both-first : (a b : List Range) (byte : ℕ) → covers a byte ≡ false → both a b byte ≡ false
-both-first a b byte out = ap (λ (t : Bool). t && covers b byte) out
-
-both-second : (a b : List Range) (byte : ℕ) → covers b byte ≡ false → both a b byte ≡ false
-both-second a b byte out = ap (λ (t : Bool). covers a byte && t) out ∙ and_no (covers a byte)
 
 -- the first range of one set lies in front of all of the other
 skip-first : (mine theirs : Range) (a b : List Range) (byte : ℕ) → mine.at + mine.len ≤ theirs.at → IsRangeList (theirs ∷ b)
@@ -37,16 +33,10 @@ skip-second mine theirs a b byte apart kept = grind (arith, nat_tests, covers-be
 found-here : (mine theirs : Range) (a b : List Range) → IsRangeList (mine ∷ a) → IsRangeList (theirs ∷ b)
     → max mine.at theirs.at - mine.at < mine.len → max mine.at theirs.at - theirs.at < theirs.len
     → IsLeast (both (mine ∷ a) (theirs ∷ b)) (Some (max mine.at theirs.at))
-found-here mine theirs a b kept_mine kept_theirs in_mine in_theirs =
-    let at : ℕ = max mine.at theirs.at in
-    let first : covers (mine ∷ a) at ≡ true = covers-inside mine a at (omega arith) (omega arith) in
-    let second : covers (theirs ∷ b) at ≡ true = covers-inside theirs b at (omega arith) (omega arith) in (
-      ap (λ (t : Bool). t && covers (theirs ∷ b) at) first ∙ second,
-      λ byte low. ⊎_elim
-          (λ before. both-first (mine ∷ a) (theirs ∷ b) byte (covers-before (mine ∷ a) byte kept_mine before))
-          (λ behind. both-second (mine ∷ a) (theirs ∷ b) byte (covers-before (theirs ∷ b) byte kept_theirs (omega arith)))
-          (cases_lt byte mine.at),
-    )
+found-here mine theirs a b kept_mine kept_theirs in_mine in_theirs = (
+  grind (arith, nat_tests),
+  λ byte low. grind (arith, nat_tests, covers-before (mine ∷ a) byte kept_mine, covers-before (theirs ∷ b) byte kept_theirs),
+)
 
 -- a test that passes the same bytes has the same least one
 least-same : (p q : ℕ → Bool) (answer : Option ℕ) → ((byte : ℕ) → p byte ≡ q byte) → IsLeast q answer → IsLeast p answer
