@@ -1,5 +1,7 @@
 -- What a step of a reader answers, where the image gives this.
 use Rattle.std.specs.Prelude.{◌≡◌, ℕ, Result, Ok, Err, List, Vec}
+use Rattle.disk_defs.specs.Count.{Faults, FailedIn}
+use Rattle.disk_defs.specs.declared.Area.TheVariants.{Image}
 use Rattle.rx_tree.specs.FoundTree.{FoundTree}
 use Rattle.volume_defs.specs.FirstForm.{FirstFault, NotFirstForm}
 use Rattle.first_reader.specs.declared.fault.FirstReadFault.{FirstReadFault}
@@ -24,3 +26,14 @@ GivesTree result found = Gives result found
 abbrev pub GivesItems : {X A : Type 0} → Result (Vec X A) FirstReadFault → Result (List X) FirstFault → Type 0
 GivesItems (Ok items) found = found ≡ Ok items.items
 GivesItems (Err fault) found = Refuses fault found
+
+-- the counts of a store before and after a step that ends with this fault: only a device's fault counts one, on the image
+abbrev pub IsFaultCounted : FirstReadFault → Faults → Faults → Type 0
+IsFaultCounted Device before now = FailedIn Image before now
+IsFaultCounted NoMemory before now = now ≡ before
+IsFaultCounted OtherForm before now = now ≡ before
+
+-- the counts of a store before and after a step with this result
+abbrev pub IsFirstCounted : {T : Type 0} → Result T FirstReadFault → Faults → Faults → Type 0
+IsFirstCounted (Ok answer) before now = now ≡ before
+IsFirstCounted (Err fault) before now = IsFaultCounted fault before now

@@ -1,6 +1,5 @@
 //! What a reader finds in an image of the first form, step by step.
 ghost use Rattle.std.specs.Prelude.{◌≡◌, ◌≤◌, true, length, IfOk, OnOk, IfErr, IfSome, IsErrOf, ◌≢◌, Err};
-ghost use Rattle.disk_defs.specs.Count.{Rose};
 ghost use Rattle.disk_defs.specs.Disk.{size_of, told_image};
 ghost use Rattle.disk_defs.specs.declared.Area.TheVariants.{Image};
 ghost use Rattle.std.specs.List.{All, list_all};
@@ -9,7 +8,7 @@ ghost use Rattle.bytes_defs.specs.Bytes.{part};
 ghost use Rattle.ufs_defs.specs.Blocks.{block_place};
 ghost use Rattle.volume_defs.specs.FirstForm.{is_first_superblock, is_first_inode, is_first_root, is_first_entry, first_superblock, first_inode, first_root, first_file};
 ghost use Rattle.volume_defs.specs.FoundFiles.{IsFileOf, AreFilesOf};
-ghost use Rattle.first_reader.specs.Gives.{Gives, GivesItems, };
+ghost use Rattle.first_reader.specs.Gives.{Gives, GivesItems, IsFirstCounted};
 
 use crate::directory::Entry;
 use crate::form::{block_at, inode_at, inode_within, is_sound, may_be_file, may_be_root};
@@ -28,9 +27,7 @@ pub(crate) fn read_superblock<S: Store>(store: &mut S) -> Result<Superblock, Fir
     ensures told { IfSome (told_image (S.state store.old)) (λ image. Gives result (run image first_superblock)) }
     ensures first { IfOk result (λ superblock. is_first_superblock superblock ≡ true) }
     ensures same { S.state store.new ≡ S.state store.old }
-    ensures counts { S.faults store.old ≤ S.faults store.new }
-    ensures cause { IsErrOf result FirstReadFault.Device → Rose (S.faults store.old) (S.faults store.new) }
-    ensures calm { result ≢ Err FirstReadFault.Device → S.faults store.new ≡ S.faults store.old }
+    ensures counted { IsFirstCounted result (S.faults store.old) (S.faults store.new) }
 {
     let bytes: [u8; 1376] = read_bytes(store, 65_536)?;
     let superblock = Superblock::from_bytes(&bytes);
@@ -53,9 +50,7 @@ fn read_inode<S: Store>(
     ensures told { IfSome (told_image (S.state store.old)) (λ image. Gives result (run image (first_inode size superblock.now number))) }
     ensures within { OnOk result (is_first_inode size superblock.now number ≡ true) }
     ensures same { S.state store.new ≡ S.state store.old }
-    ensures counts { S.faults store.old ≤ S.faults store.new }
-    ensures cause { IsErrOf result FirstReadFault.Device → Rose (S.faults store.old) (S.faults store.new) }
-    ensures calm { result ≢ Err FirstReadFault.Device → S.faults store.new ≡ S.faults store.old }
+    ensures counted { IsFirstCounted result (S.faults store.old) (S.faults store.new) }
 {
     if !inode_within(size, superblock, number) {
         return Err(FirstReadFault::OtherForm);
@@ -76,9 +71,7 @@ pub(crate) fn read_root<S: Store>(
     ensures within { OnOk result (is_first_inode size superblock.now 2 ≡ true) }
     ensures root { IfOk result (λ root. is_first_root size superblock.now root ≡ true) }
     ensures same { S.state store.new ≡ S.state store.old }
-    ensures counts { S.faults store.old ≤ S.faults store.new }
-    ensures cause { IsErrOf result FirstReadFault.Device → Rose (S.faults store.old) (S.faults store.new) }
-    ensures calm { result ≢ Err FirstReadFault.Device → S.faults store.new ≡ S.faults store.old }
+    ensures counted { IsFirstCounted result (S.faults store.old) (S.faults store.new) }
 {
     let root = read_inode(store, size, superblock, 2)?;
     if may_be_root(size, superblock, &root) {
@@ -103,9 +96,7 @@ pub(crate) fn read_content<S: Store>(
     ensures len { IfOk result (λ content. length content.items ≡ root.now.size) }
     ensures same { S.state store.new ≡ S.state store.old }
     ensures form { result ≢ Err FirstReadFault.OtherForm }
-    ensures counts { S.faults store.old ≤ S.faults store.new }
-    ensures cause { IsErrOf result FirstReadFault.Device → Rose (S.faults store.old) (S.faults store.new) }
-    ensures calm { result ≢ Err FirstReadFault.Device → S.faults store.new ≡ S.faults store.old }
+    ensures counted { IsFirstCounted result (S.faults store.old) (S.faults store.new) }
 {
     let mut content = vec![in alloc; 0; root.size as usize]?;
     read_part(store, block_at(size, superblock, root, 0), &mut content)?;
@@ -129,9 +120,7 @@ fn read_file<S: Store>(
     ensures told { IfSome (told_image (S.state store.old)) (λ image. Gives result (run image (first_file size superblock.now entries.now number))) }
     ensures file { IfOk result (λ file. IsFileOf size superblock.now entries.now number file) }
     ensures same { S.state store.new ≡ S.state store.old }
-    ensures counts { S.faults store.old ≤ S.faults store.new }
-    ensures cause { IsErrOf result FirstReadFault.Device → Rose (S.faults store.old) (S.faults store.new) }
-    ensures calm { result ≢ Err FirstReadFault.Device → S.faults store.new ≡ S.faults store.old }
+    ensures counted { IsFirstCounted result (S.faults store.old) (S.faults store.new) }
 {
     let inode = read_inode(store, size, superblock, number)?;
     if !may_be_file(size, superblock, &inode) {
@@ -157,9 +146,7 @@ pub(crate) fn read_files<S: Store>(
     ensures files { IfOk result (λ files. AreFilesOf size superblock.now entries.now numbers.now files.items) }
     ensures within { OnOk result (All (λ number. is_first_inode size superblock.now number ≡ true) numbers.now) }
     ensures same { S.state store.new ≡ S.state store.old }
-    ensures counts { S.faults store.old ≤ S.faults store.new }
-    ensures cause { IsErrOf result FirstReadFault.Device → Rose (S.faults store.old) (S.faults store.new) }
-    ensures calm { result ≢ Err FirstReadFault.Device → S.faults store.new ≡ S.faults store.old }
+    ensures counted { IsFirstCounted result (S.faults store.old) (S.faults store.new) }
 {
     let mut files = Vec::new(alloc);
     for number in numbers {

@@ -1,12 +1,11 @@
 //! The kind of an image.
 ghost use Rattle.std.specs.Prelude.{◌≡◌, ◌≤◌, length, IfSome, IsErrOf, ◌≢◌, Err};
-ghost use Rattle.disk_defs.specs.Count.{Rose};
 ghost use Rattle.disk_defs.specs.Disk.{size_of, told_image};
 ghost use Rattle.disk_defs.specs.declared.Area.TheVariants.{Image};
 ghost use Rattle.image_defs.specs.Ask.{run};
 ghost use Rattle.volume_defs.specs.Kind.{is_ntfs as is_ntfs_by, is_hfs as is_hfs_by, is_ufs1 as is_ufs1_by, is_ufs2 as is_ufs2_by, kind_of as kind_by, kind_behind_ntfs as kind_behind_ntfs_by, kind_behind_hfs as kind_behind_hfs_by, kind_behind_ufs1 as kind_behind_ufs1_by};
 ghost use Rattle.volume_defs.specs.FirstForm.{first_kind, is_first_kind as is_first_kind_by};
-ghost use Rattle.first_reader.specs.Gives.{Gives};
+ghost use Rattle.first_reader.specs.Gives.{Gives, IsFirstCounted};
 
 use crate::fault::FirstReadFault;
 use crate::read::read_bytes;
@@ -54,9 +53,7 @@ pub(crate) fn read_kind<S: Store>(store: &mut S) -> Result<(), FirstReadFault>
     ensures told { IfSome (told_image (S.state store.old)) (λ image. Gives result (run image first_kind)) }
     ensures same { S.state store.new ≡ S.state store.old }
     ensures lean { result ≢ Err FirstReadFault.NoMemory }
-    ensures counts { S.faults store.old ≤ S.faults store.new }
-    ensures cause { IsErrOf result FirstReadFault.Device → Rose (S.faults store.old) (S.faults store.new) }
-    ensures calm { result ≢ Err FirstReadFault.Device → S.faults store.new ≡ S.faults store.old }
+    ensures counted { IsFirstCounted result (S.faults store.old) (S.faults store.new) }
 {
     let kind = kind_of(store)?;
     if is_first_kind(kind) {
@@ -72,9 +69,7 @@ fn kind_of<S: Store>(store: &mut S) -> Result<Option<FsKind>, FirstReadFault>
     ensures told { IfSome (told_image (S.state store.old)) (λ image. Gives result (run image kind_by)) }
     ensures same { S.state store.new ≡ S.state store.old }
     ensures lean { result ≢ Err FirstReadFault.NoMemory }
-    ensures counts { S.faults store.old ≤ S.faults store.new }
-    ensures cause { IsErrOf result FirstReadFault.Device → Rose (S.faults store.old) (S.faults store.new) }
-    ensures calm { result ≢ Err FirstReadFault.Device → S.faults store.new ≡ S.faults store.old }
+    ensures counted { IsFirstCounted result (S.faults store.old) (S.faults store.new) }
 {
     let name: [u8; 8] = read_bytes(store, 3)?;
     let mark: [u8; 2] = read_bytes(store, 510)?;
@@ -91,9 +86,7 @@ fn kind_behind_ntfs<S: Store>(store: &mut S) -> Result<Option<FsKind>, FirstRead
     ensures told { IfSome (told_image (S.state store.old)) (λ image. Gives result (run image kind_behind_ntfs_by)) }
     ensures same { S.state store.new ≡ S.state store.old }
     ensures lean { result ≢ Err FirstReadFault.NoMemory }
-    ensures counts { S.faults store.old ≤ S.faults store.new }
-    ensures cause { IsErrOf result FirstReadFault.Device → Rose (S.faults store.old) (S.faults store.new) }
-    ensures calm { result ≢ Err FirstReadFault.Device → S.faults store.new ≡ S.faults store.old }
+    ensures counted { IsFirstCounted result (S.faults store.old) (S.faults store.new) }
 {
     let signature: [u8; 4] = read_bytes(store, 1024)?;
     if is_hfs(&signature) {
@@ -109,9 +102,7 @@ fn kind_behind_hfs<S: Store>(store: &mut S) -> Result<Option<FsKind>, FirstReadF
     ensures told { IfSome (told_image (S.state store.old)) (λ image. Gives result (run image kind_behind_hfs_by)) }
     ensures same { S.state store.new ≡ S.state store.old }
     ensures lean { result ≢ Err FirstReadFault.NoMemory }
-    ensures counts { S.faults store.old ≤ S.faults store.new }
-    ensures cause { IsErrOf result FirstReadFault.Device → Rose (S.faults store.old) (S.faults store.new) }
-    ensures calm { result ≢ Err FirstReadFault.Device → S.faults store.new ≡ S.faults store.old }
+    ensures counted { IsFirstCounted result (S.faults store.old) (S.faults store.new) }
 {
     let magic: [u8; 4] = read_bytes(store, 9564)?;
     if is_ufs1(&magic) {
@@ -127,9 +118,7 @@ fn kind_behind_ufs1<S: Store>(store: &mut S) -> Result<Option<FsKind>, FirstRead
     ensures told { IfSome (told_image (S.state store.old)) (λ image. Gives result (run image kind_behind_ufs1_by)) }
     ensures same { S.state store.new ≡ S.state store.old }
     ensures lean { result ≢ Err FirstReadFault.NoMemory }
-    ensures counts { S.faults store.old ≤ S.faults store.new }
-    ensures cause { IsErrOf result FirstReadFault.Device → Rose (S.faults store.old) (S.faults store.new) }
-    ensures calm { result ≢ Err FirstReadFault.Device → S.faults store.new ≡ S.faults store.old }
+    ensures counted { IsFirstCounted result (S.faults store.old) (S.faults store.new) }
 {
     let magic: [u8; 4] = read_bytes(store, 66_908)?;
     if is_ufs2(&magic) {

@@ -2,13 +2,12 @@
 #![tactic(auto)]
 
 ghost use Rattle.std.specs.Prelude.{◌≡◌, ◌≤◌, true, length, IfErr, IfSome, IsErrOf, ◌≢◌, Err};
-ghost use Rattle.disk_defs.specs.Count.{Rose};
 ghost use Rattle.disk_defs.specs.Disk.{size_of, told_image};
 ghost use Rattle.disk_defs.specs.declared.Area.TheVariants.{Image};
 ghost use Rattle.volume_defs.specs.FirstForm.{is_first_length, is_first_superblock};
 ghost use Rattle.volume_defs.specs.FirstTree.{first_tree};
 ghost use Rattle.volume_defs.specs.FirstRanges.{IsVolume};
-ghost use Rattle.first_reader.specs.Gives.{Gives, GivesTree};
+ghost use Rattle.first_reader.specs.Gives.{Gives, GivesTree, IsFirstCounted};
 
 mod content;
 mod directory;
@@ -35,9 +34,7 @@ use ufs_defs::superblock::Superblock;
 pub fn read_tree<S: Store>(alloc: Global, store: &mut S) -> Result<Tree, FirstReadFault>
     ensures told { IfSome (told_image (S.state store.old)) (λ image. GivesTree result (first_tree image)) }
     ensures same { S.state store.new ≡ S.state store.old }
-    ensures counts { S.faults store.old ≤ S.faults store.new }
-    ensures cause { IsErrOf result FirstReadFault.Device → Rose (S.faults store.old) (S.faults store.new) }
-    ensures calm { result ≢ Err FirstReadFault.Device → S.faults store.new ≡ S.faults store.old }
+    ensures counted { IsFirstCounted result (S.faults store.old) (S.faults store.new) }
 {
     match store.len(Area::Image) {
         Ok(size) => read_image(alloc, store, size),
@@ -51,9 +48,7 @@ fn read_image<S: Store>(alloc: Global, store: &mut S, size: u64) -> Result<Tree,
     ensures told { IfSome (told_image (S.state store.old))
         (λ image. length image ≡ size → Gives result (first_tree image)) }
     ensures same { S.state store.new ≡ S.state store.old }
-    ensures counts { S.faults store.old ≤ S.faults store.new }
-    ensures cause { IsErrOf result FirstReadFault.Device → Rose (S.faults store.old) (S.faults store.new) }
-    ensures calm { result ≢ Err FirstReadFault.Device → S.faults store.new ≡ S.faults store.old }
+    ensures counted { IsFirstCounted result (S.faults store.old) (S.faults store.new) }
 {
     if !has_first_length(size) {
         return Err(FirstReadFault::OtherForm);
@@ -83,9 +78,7 @@ fn read_volume<S: Store>(
     ensures told { IfSome (told_image (S.state store.old)) (λ image. length image ≡ size
         → IsVolume image size superblock.now → Gives result (first_tree image)) }
     ensures same { S.state store.new ≡ S.state store.old }
-    ensures counts { S.faults store.old ≤ S.faults store.new }
-    ensures cause { IsErrOf result FirstReadFault.Device → Rose (S.faults store.old) (S.faults store.new) }
-    ensures calm { result ≢ Err FirstReadFault.Device → S.faults store.new ≡ S.faults store.old }
+    ensures counted { IsFirstCounted result (S.faults store.old) (S.faults store.new) }
 {
     let root = read_root(store, size, superblock)?;
     let content = read_content(alloc, store, size, superblock, &root)?;

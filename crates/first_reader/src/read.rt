@@ -1,9 +1,9 @@
 //! Reads parts of an image.
 ghost use Rattle.std.specs.Prelude.{◌≡◌, ◌+◌, ◌≤◌, ℕ, true, length, IfOk, IfErr, IfSome, OnOk, OnErr, Ok};
-ghost use Rattle.disk_defs.specs.Count.{Rose};
 ghost use Rattle.disk_defs.specs.Disk.{size_of, told_image};
 ghost use Rattle.disk_defs.specs.declared.Area.TheVariants.{Image};
 ghost use Rattle.bytes_defs.specs.Bytes.{part};
+ghost use Rattle.first_reader.specs.Gives.{IsFirstCounted};
 ghost use Rattle.first_reader.specs.declared.fault.FirstReadFault.TheVariants.{Device};
 
 use crate::fault::FirstReadFault;
@@ -15,9 +15,7 @@ pub(crate) fn read_part<S: Store>(store: &mut S, at: u64, buf: &mut [u8]) -> Res
     ensures bytes { OnOk result (IfSome (told_image (S.state store.old)) (λ image. buf.new ≡ part image at (length buf.old))) }
     ensures same { S.state store.new ≡ S.state store.old }
     ensures refusals { IfErr result (λ fault. fault ≡ Device) }
-    ensures counts { S.faults store.old ≤ S.faults store.new }
-    ensures cause { OnErr result (Rose (S.faults store.old) (S.faults store.new)) }
-    ensures calm { OnOk result (S.faults store.new ≡ S.faults store.old) }
+    ensures counted { IsFirstCounted result (S.faults store.old) (S.faults store.new) }
 {
     match store.read_at(Area::Image, at, buf) {
         Ok(()) => Ok(()),
@@ -35,9 +33,7 @@ pub(crate) fn read_bytes<const N: usize, S: Store>(
     ensures len { IfOk result (λ bytes. length bytes ≡ N) }
     ensures same { S.state store.new ≡ S.state store.old }
     ensures refusals { IfErr result (λ fault. fault ≡ Device) }
-    ensures counts { S.faults store.old ≤ S.faults store.new }
-    ensures cause { OnErr result (Rose (S.faults store.old) (S.faults store.new)) }
-    ensures calm { OnOk result (S.faults store.new ≡ S.faults store.old) }
+    ensures counted { IsFirstCounted result (S.faults store.old) (S.faults store.new) }
 {
     let mut bytes = [0; N];
     read_part(store, at, &mut bytes)?;
