@@ -1,6 +1,7 @@
 -- The plan of a tree and its rules: which bytes are filled, by which rule and with what, and which files are listed.
 use Rattle.std.specs.Prelude.{ℕ, Bool, ◌&&◌, is_some, if◌then◌else◌, nat_lt, Option, Some, None, List, [], ◌++◌, map}
 use Rattle.std.specs.List.{list_any, flat_map}
+use Rattle.std.specs.Option.{option_map}
 use Rattle.range_defs.specs.declared.Range.{Range}
 use Rattle.range_defs.specs.declared.Claim.{Claim}
 use Rattle.range_defs.specs.Places.{covers, least_below}
@@ -50,14 +51,21 @@ claim_some claims = list_any (λ claim. nat_lt 0 claim.range.len) claims
 abbrev pub alias_lines : ℕ → (ℕ → Bool) → FileEntry → List Listed
 alias_lines len planned file = if touches_planned len planned file then lines_for Alias 0 file else []
 
--- the lines of a file: of a settled one whose claim has a byte each name with its rule, and else those of an alias
-abbrev pub file_lines : ℕ → (ℕ → Bool) → Option Rule → List Claim → FileEntry → List Listed
-file_lines len planned None claims file = alias_lines len planned file
-file_lines len planned (Some rule) claims file =
-    if claim_some claims then lines_for File rule.number file else alias_lines len planned file
+-- the number of the rule under which a file is listed as settled: that of the settling rule, where its claim has a byte
+abbrev pub listing_rule : Option Rule → List Claim → Option ℕ
+listing_rule None claims = None
+listing_rule (Some rule) claims = if claim_some claims then Some rule.number else None
+
+abbrev pub listed_as : List Rule → FileEntry → Option ℕ
+listed_as rules file = listing_rule (settling_rule rules file) (claims_on rules file)
+
+-- the lines of a file: of one that is listed as settled each name with that rule, and else those of an alias
+abbrev pub file_lines : ℕ → (ℕ → Bool) → Option ℕ → FileEntry → List Listed
+file_lines len planned None file = alias_lines len planned file
+file_lines len planned (Some number) file = lines_for File number file
 
 abbrev pub lines_of : List Rule → ℕ → (ℕ → Bool) → FileEntry → List Listed
-lines_of rules len planned file = file_lines len planned (settling_rule rules file) (claims_on rules file) file
+lines_of rules len planned file = file_lines len planned (listed_as rules file) file
 
 -- the plan of a tree and its rules: the longest ranges of equal rule over the planned bytes, and the lines of the
 -- files in the tree's order
@@ -72,3 +80,7 @@ plan_of tree rules = record {
 unfoldable pub guarded_byte : FoundTree → List Rule → Option ℕ
 guarded_byte tree rules =
     least_below (λ byte. is_planned rules tree.files byte && covers tree.guard byte) tree.image_len
+
+-- the number of the rule by which a byte is planned, if it is planned
+abbrev pub planning_rule : List Rule → FoundTree → ℕ → Option ℕ
+planning_rule rules tree byte = option_map (λ paint. paint.0) (planned_at rules tree.files byte)

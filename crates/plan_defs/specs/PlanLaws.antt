@@ -1,20 +1,20 @@
 -- Laws on the claims on files, the lines of a listing and the plan: what a reader of the plan's parts needs to know that
 -- they are the plan.
-use Rattle.std.proofs.Common.{◌≡◌, ℕ, zero, suc, ◌+◌, ◌<◌, ◌≤◌, Bool, true, false, ◌&&◌, cond, Option, Some, None, is_some, List, [], ◌∷◌, map, length, get_or, refl, sym, ◌∙◌, ap, subst, arith}
+use Rattle.std.proofs.Common.{◌≡◌, ℕ, ◌+◌, ◌<◌, ◌≤◌, Bool, true, false, ◌&&◌, ◌==◌, cond, Option, Some, None, is_some, List, [], ◌∷◌, map, length, get_or, refl, sym, ◌∙◌, ap, subst, arith}
 use mathlib.Core.Path.{fun_ext}
 use Rattle.std.specs.List.{All, flat_map}
 use Rattle.std.proofs.lemmas.List.Elements.{All-nil, All-head, All-tail, All-cons, All-append, All-map, All-weaker, All-same}
 use Rattle.std.proofs.lemmas.Bool.{cond_both, and_right}
+use Rattle.std.proofs.lemmas.Bool.Decides.{nat_tests}
 use Rattle.range_defs.specs.declared.Range.{Range}
 use Rattle.range_defs.specs.declared.Claim.{Claim}
 use Rattle.range_defs.specs.Places.{covers, IsLeast, least_below, EndsInReach}
 use Rattle.range_defs.specs.RangeLaws.{EndsBy as RangeEndsBy, covers-past}
 use Rattle.range_defs.specs.LeastLaws.{same_as_least_below}
-use Rattle.range_defs.specs.Claims.{painted, longest_claims, IsFillMap, HaveOneFill}
-use Rattle.range_defs.specs.ClaimLaws.{EndsBy, painted-past, longest_claims_ends, longest_claims_claim, same_as_longest_claims, ends_where_painted}
+use Rattle.range_defs.specs.Claims.{painted, IsFillMap, HaveOneFill}
+use Rattle.range_defs.specs.ClaimLaws.{EndsBy, painted-past, same_as_longest_claims, ends_where_painted}
 use Rattle.rx_ranges.specs.declared.pieces.PieceKind.{PieceKind}
 use Rattle.rx_ranges.specs.declared.pieces.PieceKind.TheVariants.{Disk, Zero}
-use Rattle.rx_ranges.specs.declared.plan.Plan.{Plan}
 use Rattle.rx_ranges.specs.declared.plan.Listed.{Listed}
 use Rattle.rx_ranges.specs.declared.plan.ListKind.TheVariants as kinds
 use Rattle.rx_tree.specs.declared.part.Role.{Role}
@@ -26,8 +26,9 @@ use Rattle.rx_tree.specs.Within.{ArePiecesWithin, AreRangesWithin, ArePartsWithi
 use Rattle.rule_defs.specs.declared.Rule.{Rule}
 use Rattle.rule_defs.specs.declared.Action.{Action}
 use Rattle.rule_defs.specs.declared.Action.TheVariants.{Fill}
+use Rattle.rule_defs.specs.Numbered.{AreNumbered, AreNumberedFrom}
 use Rattle.rule_defs.specs.Settle.{holds, is_plain_file, settling_rule, disk_range, disk_ranges, content_range, content_ranges, fill_of, claimed_ranges, claim_by, claims_by, claims_on}
-use Rattle.plan_defs.specs.Plan.{all_claims, planned_at, is_planned, part_ranges, touched_ranges, touches_planned, lines_for, claim_some, alias_lines, file_lines, lines_of, plan_of, guarded_byte}
+use Rattle.plan_defs.specs.Plan.{all_claims, planned_at, is_planned, part_ranges, touched_ranges, touches_planned, lines_of, plan_of, guarded_byte}
 
 -- what holds of all that each element gives holds of all that the list gives
 All-flat_map : {X Y : Type 0} (P : X → Type 0) (Q : Y → Type 0) (f : X → List Y) → ((x : X) → P x → All Q (f x))
@@ -106,59 +107,48 @@ file-in_reach tree files index file within files_are inside is =
     parts-longer tree.image_len 9223372036854775808 file.parts (omega (arith, within.in_reach))
     (file-within tree files index file within files_are inside is)
 
-claimed_ranges-content : (action : Action) (file : FileEntry) → claimed_ranges action file ≡ content_ranges file
-claimed_ranges-content (Fill byte) file = refl
+-- the fill of the rule with a number
+abbrev fill_by : List Rule → ℕ → ℕ
+fill_by [] number = 0
+fill_by (rule ∷ rules) number = cond (rule.number == number) (fill_of rule.action) (fill_by rules number)
 
--- what one rule claims of a file that it settles, and of one that it doesn't
-pub claims_on-settled : (rule : Rule) (file : FileEntry) → (is_plain_file file.kind && holds rule.condition file) ≡ true
-    → claims_on (rule ∷ []) file ≡ map (claim_by rule) (content_ranges file)
-claims_on-settled rule file settled = rw settled (ap (map (claim_by rule)) (claimed_ranges-content rule.action file))
+-- a claim has the fill of its rule, and its rule's number isn't below the first one's
+abbrev IsFilledBy : ℕ → List Rule → Claim → Type 0
+IsFilledBy first rules claim = (first ≤ claim.rule) × (claim.fill ≡ fill_by rules claim.rule)
 
-pub claims_on-unsettled : (rule : Rule) (file : FileEntry) → (is_plain_file file.kind && holds rule.condition file) ≡ false
-    → claims_on (rule ∷ []) file ≡ []
-claims_on-unsettled rule file unsettled = rw unsettled refl
+filled-own : (rule : Rule) (rules : List Rule) → fill_of rule.action ≡ fill_by (rule ∷ rules) rule.number
+filled-own rule rules =
+    let same : (rule.number == rule.number) ≡ true = grind (arith, nat_tests) in
+    rw same refl
 
--- each claim of one rule has its fill
-HasFillOf : Rule → Claim → Type 0
-HasFillOf rule claim = claim.fill ≡ fill_of rule.action
+filled-behind : (first : ℕ) (rule : Rule) (rules : List Rule) (claim : Claim) → rule.number ≡ first → IsFilledBy (first + 1) rules claim
+    → IsFilledBy first (rule ∷ rules) claim
+filled-behind first rule rules claim numbered filled =
+    let behind : first + 1 ≤ claim.rule = filled.0 in
+    let other : (rule.number == claim.rule) ≡ false = grind (arith, nat_tests) in
+    let passed : fill_by rules claim.rule ≡ fill_by (rule ∷ rules) claim.rule = rw other refl in
+    (omega arith, filled.1 ∙ passed)
 
-claims_by-filled : (rule : Rule) (file : FileEntry) → All (HasFillOf rule) (claims_by (Some rule) file)
-unfolding HasFillOf
-claims_by-filled rule file =
-    All-map (HasFillOf rule) (claim_by rule) (claimed_ranges rule.action file) (λ index other inside. refl)
+claims_on-filled : (first : ℕ) (rules : List Rule) (file : FileEntry) → AreNumberedFrom first rules
+    → All (IsFilledBy first rules) (claims_on rules file)
+claims_on-filled first [] file numbered = All-nil (IsFilledBy first [])
+claims_on-filled first (rule ∷ rules) file numbered =
+    let number : rule.number ≡ first = numbered.0 in
+    cond_both (is_plain_file file.kind && holds rule.condition file) (Some rule) (settling_rule rules file)
+    (λ settling. All (IsFilledBy first (rule ∷ rules)) (claims_by settling file))
+    (λ settled. All-map (IsFilledBy first (rule ∷ rules)) (claim_by rule) (claimed_ranges rule.action file)
+    (λ index other inside. (omega arith, filled-own rule rules)))
+    (λ unsettled. All-weaker (IsFilledBy (first + 1) rules) (IsFilledBy first (rule ∷ rules)) (λ claim filled. filled-behind first rule rules claim number filled)
+    (claims_by (settling_rule rules file) file) (claims_on-filled (first + 1) rules file numbered.1))
 
-claims_on-filled : (rule : Rule) (file : FileEntry) → All (HasFillOf rule) (claims_on (rule ∷ []) file)
-claims_on-filled rule file =
-    cond_both (is_plain_file file.kind && holds rule.condition file) (Some rule) None
-    (λ settling. All (HasFillOf rule) (claims_by settling file))
-    (λ settled. claims_by-filled rule file)
-    (λ unsettled. All-nil (HasFillOf rule))
-
--- the claims of one rule have one fill
-pub claims-one_fill : (rule : Rule) (files : List FileEntry) → HaveOneFill (all_claims (rule ∷ []) files)
-unfolding HasFillOf
-claims-one_fill rule files first second other before inside same_rule =
-    let filled : All (HasFillOf rule) (all_claims (rule ∷ []) files) =
-    All-flat_map (λ file. Unit {0}) (HasFillOf rule) (claims_on (rule ∷ [])) (λ file any. claims_on-filled rule file) files (λ index at within. tt) in
-    filled first other (omega arith) ∙ sym (filled second other inside)
-
--- the lines of a file where there is one rule
-pub lines_of-one : (rule : Rule) (len : ℕ) (planned : ℕ → Bool) (file : FileEntry)
-    → lines_of (rule ∷ []) len planned file
-    ≡ cond (claim_some (claims_on (rule ∷ []) file)) (lines_for kinds.File rule.number file) (alias_lines len planned file)
-lines_of-one rule len planned file =
-    elim (is_plain_file file.kind && holds rule.condition file) as
-    (λ test. file_lines len planned (cond test (Some rule) None) (claims_by (cond test (Some rule) None) file) file
-    ≡ cond (claim_some (claims_by (cond test (Some rule) None) file)) (lines_for kinds.File rule.number file) (alias_lines len planned file))
-    [ true ↦ refl | false ↦ refl ]
-
--- those of a file of which it claims no byte, and that touches a planned one
-pub lines_of-alias : (rule : Rule) (len : ℕ) (planned : ℕ → Bool) (file : FileEntry) → claim_some (claims_on (rule ∷ []) file) ≡ false
-    → touches_planned len planned file ≡ true → lines_for kinds.Alias 0 file ≡ lines_of (rule ∷ []) len planned file
-lines_of-alias rule len planned file unclaimed touched =
-    sym (lines_of-one rule len planned file
-    ∙ ap (λ test. cond test (lines_for kinds.File rule.number file) (alias_lines len planned file)) unclaimed
-    ∙ ap (λ test. cond test (lines_for kinds.Alias 0 file) []) touched)
+-- the claims of rules of different numbers have one fill for each rule
+pub claims-one_fill : (rules : List Rule) (files : List FileEntry) → AreNumbered rules → HaveOneFill (all_claims rules files)
+claims-one_fill rules files numbered first second other before inside same_rule =
+    let filled : All (IsFilledBy 1 rules) (all_claims rules files) =
+    All-flat_map (λ file. Unit {0}) (IsFilledBy 1 rules) (claims_on rules) (λ file any. claims_on-filled 1 rules file numbered) files (λ index at within. tt) in
+    let a = filled first other (omega arith) in
+    let b = filled second other inside in
+    a.1 ∙ ap (fill_by rules) same_rule ∙ sym b.1
 
 -- the least byte that a set and the bytes of a file share tells whether the file touches the set
 pub touches-by_least : (len : ℕ) (file : FileEntry) (planned touched : List Range) (answer : Option ℕ) → ArePartsWithin len file.parts
@@ -213,35 +203,14 @@ plan-by_parts tree rules ranges planned lines within kept same planned_is lines_
     lines_are ∙ ap (λ (set : ℕ → Bool). flat_map (lines_of rules tree.image_len set) tree.files) set_is in
     cc
 
--- the claims of a plan end where the image does
-pub plan-in_reach : (tree : FoundTree) (rules : List Rule) (plan : Plan) → IsWithin tree → plan ≡ plan_of tree rules
-    → All (λ claim. EndsInReach claim.range) plan.ranges
-unfolding plan_of
-plan-in_reach tree rules plan within is =
-    subst (λ (p : Plan). All (λ claim. EndsInReach claim.range) p.ranges) (sym is)
-    (claims-in_reach tree.image_len (longest_claims (planned_at rules tree.files) 0 tree.image_len) within.in_reach
-    (longest_claims_ends (planned_at rules tree.files) tree.image_len))
-
--- where two tests agree below a number, the least below it is the same
-least_below-same : (a b : ℕ → Bool) (end : ℕ) → ((byte : ℕ) → byte < end → a byte ≡ b byte) → least_below a end ≡ least_below b end
-unfolding least_below
-least_below-same a b zero agree = refl
-least_below-same a b (suc last) agree =
-    let rest : least_below a last ≡ least_below b last = least_below-same a b last (λ byte low. agree byte (omega arith)) in
-    let here : a last ≡ b last = agree last (omega arith) in
-    rw (rest, here) refl
-
--- the least byte that the bytes of a plan share with the guard
-pub guarded-by_least : (tree : FoundTree) (rules : List Rule) (plan : Plan) (planned : List Range) (answer : Option ℕ) → IsWithin tree
-    → plan ≡ plan_of tree rules → ((byte : ℕ) → covers planned byte ≡ is_some (painted plan.ranges byte))
+-- the least byte that a set with the planned bytes shares with the guard
+pub guarded-by_least : (tree : FoundTree) (rules : List Rule) (ranges : List Claim) (planned : List Range) (answer : Option ℕ) → IsWithin tree
+    → ((byte : ℕ) → painted ranges byte ≡ planned_at rules tree.files byte) → ((byte : ℕ) → covers planned byte ≡ is_some (painted ranges byte))
     → IsLeast (λ byte. covers planned byte && covers tree.guard byte) answer → answer ≡ guarded_byte tree rules
-unfolding plan_of guarded_byte
-guarded-by_least tree rules plan planned answer within is planned_is least =
+unfolding guarded_byte
+guarded-by_least tree rules ranges planned answer within same planned_is least =
     let past : (byte : ℕ) → tree.image_len ≤ byte → (covers planned byte && covers tree.guard byte) ≡ false =
     λ byte behind. and_right (covers planned byte) (covers tree.guard byte) (covers-past tree.image_len byte tree.guard within.guard behind) in
-    let set_is : (byte : ℕ) → byte < tree.image_len → covers planned byte ≡ is_planned rules tree.files byte =
-    λ byte inside. planned_is byte ∙ ap (λ (p : Plan). is_some (painted p.ranges byte)) is
-    ∙ longest_claims_claim (planned_at rules tree.files) tree.image_len byte inside in
+    let set_is : covers planned ≡ is_planned rules tree.files = fun_ext (λ byte. planned_is byte ∙ ap is_some (same byte)) in
     same_as_least_below (λ byte. covers planned byte && covers tree.guard byte) tree.image_len answer least past
-    ∙ least_below-same (λ byte. covers planned byte && covers tree.guard byte) (λ byte. is_planned rules tree.files byte && covers tree.guard byte)
-    tree.image_len (λ byte inside. ap (λ b. b && covers tree.guard byte) (set_is byte inside))
+    ∙ ap (λ (set : ℕ → Bool). least_below (λ byte. set byte && covers tree.guard byte) tree.image_len) set_is

@@ -1,7 +1,0 @@
-use Rattle.std.proofs.Common.{◌≡◌, ◌++◌, take, map}
-use Rattle.redact_cmd.proofs.plan.push_lines.Given as goal
-
--- the lines of the names so far are appended
-abbrev pub invariant-loop-name : goal.invariant-loop-name
-invariant-loop-name l =
-    l.lines.items ≡ l.fn.lines.items ++ map (λ name. record { kind = l.kind; rule = l.rule; path = name }) (take l.name-index l.names)

@@ -1,0 +1,94 @@
+//! Makes the plan of a tree and its rules.
+#![tactic(auto)]
+
+ghost use Rattle.std.specs.Prelude.{◌≡◌, ◌&&◌, ℕ, All, Some, None, IfOk, IfSome, IsErrOf, OnOk, is_some};
+ghost use Rattle.std.specs.Option.{option_map};
+ghost use Rattle.range_defs.specs.Claims.{painted, ranges_of};
+ghost use Rattle.range_defs.specs.Places.{covers, EndsInReach, IsLeast};
+ghost use Rattle.plan_defs.specs.Plan.{plan_of, guarded_byte, planning_rule};
+ghost use Rattle.rx_plan.specs.declared.PlanFault.TheVariants.{NoMemory};
+
+mod listing;
+mod settling;
+#[cfg(test)]
+mod tests;
+
+use crate::listing::listing_of;
+use crate::settling::{Settled, settle_files};
+use rule_defs::Rules;
+use rx_ranges::{Claim, FillMap, Listing, Plan, Range, RangeList};
+use rx_store::Store;
+use rx_tree::Tree;
+use std::alloc::{AllocError, Global};
+
+/// Why there is no plan.
+#[derive(Clone, Copy, Debug, PartialEq, Eq)]
+pub enum PlanFault {
+    /// It would fill this byte of the guard, the least one, by this rule.
+    MeetsGuard { at: u64, rule: u32 },
+    /// There was no memory.
+    NoMemory,
+}
+
+impl From<AllocError> for PlanFault {
+    ghost from_gives = { λ _ fault. fault ≡ NoMemory };
+
+    fn from(_error: AllocError) -> PlanFault {
+        PlanFault::NoMemory
+    }
+}
+
+/// The ranges of claims.
+fn ranges_of(alloc: Global, claims: &[Claim]) -> Result<Vec<Range>, AllocError>
+    ensures { IfOk result (λ ranges. ranges.items ≡ ranges_of claims.now) }
+{
+    claims.iter().map(|claim| claim.range).collect(alloc)
+}
+
+/// The set of the bytes that are filled.
+fn filled_bytes(alloc: Global, fills: &FillMap) -> Result<RangeList, AllocError>
+    requires { All (λ claim. EndsInReach claim.range) fills.now }
+    ensures { IfOk result (λ filled. (byte : ℕ) → covers filled byte ≡ is_some (painted fills.now byte)) }
+{
+    let ranges = ranges_of(alloc, fills.items())?;
+    RangeList::from_ranges(alloc, ranges)
+}
+
+/// The least filled byte of the guard, and its rule.
+fn guarded(guard: &RangeList, fills: &FillMap, planned: &RangeList) -> Option<(u64, u32)>
+    requires { (byte : ℕ) → covers planned.now byte ≡ is_some (painted fills.now byte) }
+    ensures least { IsLeast (λ byte. covers planned.now byte && covers guard.now byte) (option_map (λ found. found.0) result) }
+    ensures rule { IfSome result (λ found. option_map (λ paint. paint.0) (painted fills.now found.0) ≡ Some found.1) }
+{
+    let at = planned.meets(guard)?;
+    let (rule, _) = fills.holds(at)?;
+    Some((at, rule))
+}
+
+/// The plan of a tree and its rules. It is refused where it would fill a byte of the guard, the least of which is named
+/// with its rule. No rule reads content yet, so the store isn't called.
+pub fn make_plan<S: Store>(
+    alloc: Global,
+    store: &mut S,
+    tree: &Tree,
+    rules: &Rules,
+) -> Result<Plan, PlanFault>
+    ensures plan { IfOk result (λ plan. plan ≡ plan_of tree.now rules.now) }
+    ensures unguarded { OnOk result (guarded_byte tree.now rules.now ≡ None) }
+    ensures guarded { (at rule : ℕ) → IsErrOf result (PlanFault.MeetsGuard at rule)
+        → (guarded_byte tree.now rules.now ≡ Some at) × (planning_rule rules.now tree.now at ≡ Some rule) }
+    ensures idle { store.new ≡ store.old }
+{
+    let Settled { claims, listed } = settle_files(alloc, rules.items(), tree.files.items())?;
+    let ranges = FillMap::first_wins(alloc, claims)?;
+    let planned = filled_bytes(alloc, &ranges)?;
+    if let Some((at, rule)) = guarded(&tree.guard, &ranges, &planned) {
+        return Err(PlanFault::MeetsGuard { at, rule });
+    }
+    let lines = listing_of(alloc, tree, &listed, &planned)?;
+    Ok(Plan {
+        image_len: tree.image_len,
+        ranges,
+        listing: Listing::from_vec(lines),
+    })
+}

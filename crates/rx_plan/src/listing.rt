@@ -1,0 +1,96 @@
+//! Which names of files are listed.
+ghost use Rattle.std.specs.Prelude.{◌≡◌, ◌++◌, ℕ, List, IfOk, length, map};
+ghost use Rattle.std.specs.List.{flat_map};
+ghost use Rattle.range_defs.specs.Places.{covers};
+ghost use Rattle.rx_tree.specs.Within.{ArePartsWithin};
+ghost use Rattle.rule_defs.specs.declared.Rule.{Rule as RuleValue};
+ghost use Rattle.plan_defs.specs.Plan.{part_ranges, touches_planned, file_lines, listed_as, lines_of};
+
+use crate::settling::push_disk_ranges;
+use rx_ranges::{ListKind, Listed, NoMemory, Range, RangeList, Text};
+use rx_tree::{FileEntry, Part, Tree};
+use std::alloc::Global;
+
+/// Appends the bytes of the image that these parts touch.
+fn push_touched_ranges(ranges: &mut Vec<Range>, parts: &[Part]) -> Result<(), NoMemory>
+    ensures { IfOk result (λ _. ranges.new.items ≡ ranges.old.items ++ flat_map part_ranges parts.now) }
+{
+    for part in parts {
+        push_disk_ranges(ranges, part.pieces.items())?;
+        ranges.extend_from_slice(part.slack.items())?;
+    }
+    Ok(())
+}
+
+/// Whether a file touches a byte of a set.
+fn touches(alloc: Global, planned: &RangeList, file: &FileEntry) -> Result<bool, NoMemory>
+    requires { ArePartsWithin 9223372036854775808 file.now.parts }
+    ensures { IfOk result (λ touches. (len : ℕ) → ArePartsWithin len file.now.parts
+        → touches ≡ touches_planned len (covers planned.now) file.now) }
+{
+    let mut ranges = Vec::new(alloc);
+    push_touched_ranges(&mut ranges, file.parts.items())?;
+    let touched = RangeList::from_ranges(alloc, ranges)?;
+    Ok(planned.meets(&touched).is_some())
+}
+
+/// Appends a line for each name of a file.
+fn push_lines(
+    alloc: Global,
+    lines: &mut Vec<Listed>,
+    kind: ListKind,
+    rule: u32,
+    names: &[Text],
+) -> Result<(), NoMemory>
+    ensures { IfOk result (λ _. lines.new.items
+        ≡ lines.old.items ++ map (λ name. record { kind = kind; rule = rule; path = name }) names.now) }
+{
+    for name in names {
+        lines.push(Listed {
+            kind,
+            rule,
+            path: Text::from_str(alloc, name.as_str())?,
+        })?;
+    }
+    Ok(())
+}
+
+/// Appends the lines of a file: of one that is listed as settled under this number, or else of an alias.
+fn push_lines_of(
+    alloc: Global,
+    lines: &mut Vec<Listed>,
+    listed: Option<u32>,
+    planned: &RangeList,
+    file: &FileEntry,
+) -> Result<(), NoMemory>
+    requires { ArePartsWithin 9223372036854775808 file.now.parts }
+    ensures { IfOk result (λ _. (len : ℕ) → ArePartsWithin len file.now.parts
+        → lines.new.items ≡ lines.old.items ++ file_lines len (covers planned.now) listed file.now) }
+{
+    if let Some(rule) = listed {
+        return push_lines(alloc, lines, ListKind::File, rule, file.names.items());
+    }
+    if touches(alloc, planned, file)? {
+        return push_lines(alloc, lines, ListKind::Alias, 0, file.names.items());
+    }
+    Ok(())
+}
+
+/// The listing of a tree's files, of which these are the numbers under which they are listed as settled.
+pub(crate) fn listing_of(
+    alloc: Global,
+    tree: &Tree,
+    listed: &[Option<u32>],
+    planned: &RangeList,
+) -> Result<Vec<Listed>, NoMemory>
+    requires { length listed.now ≡ length tree.now.files }
+    ensures { IfOk result (λ lines. (rules : List RuleValue) → listed.now ≡ map (listed_as rules) tree.now.files
+        → lines.items ≡ flat_map (lines_of rules tree.now.image_len (covers planned.now)) tree.now.files) }
+{
+    let files = tree.files.items();
+    let mut lines = Vec::new(alloc);
+    for i in 0..files.len() {
+        push_lines_of(alloc, &mut lines, listed[i], planned, &files[i])?;
+    }
+    Ok(lines)
+}

@@ -1,0 +1,135 @@
+//! Examples with values that are worked out by hand.
+ghost use Rattle.std.specs.Prelude.{◌≡◌, ◌+◌, ◌<◌, ◌≤◌, [], ◌∷◌, IfOk};
+ghost use Rattle.rx_tree.specs.Within.{AreRangesWithin, ArePartsWithin};
+
+use super::*;
+use rule_defs::{Action, Condition, Rule};
+use rx_ranges::{ListKind, NoMemory, Piece, PieceKind, Pieces, Text};
+use rx_store::MemStore;
+use rx_tree::{FileEntry, FileId, Files, Kind, Names, Part, Parts, Role, Volumes};
+use std::test::Fail;
+
+/// The length of the image in these examples.
+const LEN: u64 = 64;
+
+fn set_of(alloc: Global, ranges: Vec<Range>) -> Result<RangeList, NoMemory>
+    requires { AreRangesWithin LEN ranges.items }
+    ensures { IfOk result (λ list. AreRangesWithin LEN list) }
+{
+    RangeList::from_ranges(alloc, ranges)
+}
+
+fn content(alloc: Global, at: u64, len: u64, slack: RangeList) -> Result<Part, NoMemory>
+    requires some { 0 < len }
+    requires fits { at + len ≤ LEN }
+    requires slack_fits { AreRangesWithin LEN slack }
+    ensures { IfOk result (λ part. ArePartsWithin LEN (part ∷ [])) }
+{
+    let piece = Piece {
+        from: 0,
+        len,
+        kind: PieceKind::Disk,
+        at,
+    };
+    Ok(Part {
+        role: Role::Content,
+        name: Text::from_str(alloc, "")?,
+        size: len,
+        pieces: Pieces::from_vec(vec![in alloc; piece]?),
+        slack,
+        unreadable: false,
+    })
+}
+
+fn file(alloc: Global, number: u64, path: &str, part: Part) -> Result<FileEntry, NoMemory>
+    requires { ArePartsWithin LEN (part ∷ []) }
+    ensures id { IfOk result (λ file. file.id ≡ record { volume = 1; number = number }) }
+    ensures within { IfOk result (λ file. ArePartsWithin LEN file.parts) }
+{
+    Ok(FileEntry {
+        id: FileId { volume: 1, number },
+        kind: Kind::File,
+        names: Names::from_vec(vec![in alloc; Text::from_str(alloc, path)?]?),
+        parts: Parts::from_vec(vec![in alloc; part]?),
+    })
+}
+
+/// A file whose content lies from 8 to 14 with slack up to 16, one that shares the last two of these bytes and one
+/// that shares the slack; and a guard.
+fn tree(alloc: Global, guard: Vec<Range>) -> Result<Tree, NoMemory>
+    requires { AreRangesWithin LEN guard.items }
+{
+    let slack = set_of(alloc, vec![in alloc; Range { at: 14, len: 2 }]?)?;
+    let key = file(alloc, 4, "/home/key", content(alloc, 8, 6, slack)?)?;
+    let slack = set_of(alloc, Vec::new(alloc))?;
+    let shares = file(alloc, 5, "/copy", content(alloc, 12, 4, slack)?)?;
+    let slack = set_of(alloc, Vec::new(alloc))?;
+    let apart = file(alloc, 6, "/key/other", content(alloc, 14, 4, slack)?)?;
+    Ok(Tree {
+        image_len: LEN,
+        volumes: Volumes::from_vec(Vec::new(alloc)),
+        unread: set_of(alloc, Vec::new(alloc))?,
+        files: Files::from_vec(vec![in alloc; key, shares, apart]?),
+        guard: set_of(alloc, guard)?,
+    })
+}
+
+fn rule(alloc: Global, number: u32, name: &str, fill: u8) -> Result<Rule, NoMemory>
+    ensures { IfOk result (λ rule. rule.number ≡ number) }
+{
+    Ok(Rule {
+        number,
+        condition: Condition::FileName(Text::from_str(alloc, name)?),
+        action: Action::Fill(fill),
+    })
+}
+
+/// The plan where `key` and `copy` are filled, each by its rule.
+fn plan(alloc: Global, guard: Vec<Range>) -> Result<Result<Plan, PlanFault>, NoMemory>
+    requires { AreRangesWithin LEN guard.items }
+{
+    let key = rule(alloc, 1, "key", 0x2A)?;
+    let copy = rule(alloc, 2, "copy", 0x31)?;
+    let rules = Rules::from_vec(vec![in alloc; key, copy]?);
+    let mut store = MemStore::new(alloc, Vec::new(alloc), Vec::new(alloc), 0, 0, 0)?;
+    Ok(make_plan(alloc, &mut store, &tree(alloc, guard)?, &rules))
+}
+
+#[test]
+fn the_first_of_two_rules_has_the_shared_bytes(rt: HostRuntime) -> Result<(), Fail> {
+    let Ok(plan) = plan(rt.alloc(), vec![in rt.alloc(); Range { at: 0, len: 8 }]?)? else {
+        panic!(rt; "it is refused");
+    };
+    assert_eq!(rt; plan.image_len, 64);
+    let claim = |at, len, rule, fill| Claim {
+        range: Range { at, len },
+        rule,
+        fill,
+    };
+    let filled = [claim(8, 6, 1, 0x2A), claim(14, 2, 2, 0x31)];
+    assert_eq!(rt; plan.ranges.items(), filled.as_slice());
+    let wanted = [
+        (ListKind::File, 1, "/home/key"),
+        (ListKind::File, 2, "/copy"),
+        (ListKind::Alias, 0, "/key/other"),
+    ];
+    let lines = plan.listing.items();
+    assert_eq!(rt; lines.len(), wanted.len());
+    for (line, (kind, number, path)) in lines.iter().zip(wanted) {
+        assert_eq!(rt; line.kind, kind);
+        assert_eq!(rt; line.rule, number);
+        assert_eq!(rt; line.path.as_str(), path);
+    }
+    Ok(())
+}
+
+#[test]
+fn the_least_byte_of_the_guard_is_named(rt: HostRuntime) -> Result<(), Fail> {
+    let cases = [(11, 1), (14, 2), (15, 2)];
+    for (at, rule) in cases {
+        let guard = vec![in rt.alloc(); Range { at: 20, len: 9 }, Range { at, len: 5 }]?;
+        let fault = plan(rt.alloc(), guard)?.err();
+        assert_eq!(rt; fault, Some(PlanFault::MeetsGuard { at, rule }));
+    }
+    Ok(())
+}
