@@ -1,9 +1,10 @@
 -- When a run list is damaged, by the runs in front of each run: their lengths sum to the virtual clusters in front of it,
 -- and their offsets sum to the cluster that its offset counts from.
-use Rattle.std.specs.Prelude.{◌≡◌, ℕ, ◌+◌, ◌^◌, ◌<◌, ◌≤◌, ℤ, pos, negsuc, ◌+ℤ◌, ◌⊎◌, Option, Some, None, List, [], ◌∷◌, ◌++◌, sum_by}
+use Rattle.std.specs.Prelude.{ℕ, ◌+◌, ◌^◌, ℤ, pos, negsuc, ◌+ℤ◌, Bool, true, ◌==◌, nat_lt, if◌then◌else◌, Option, Some, None, List, [], ◌∷◌, ◌++◌, sum_by}
 use Rattle.ntfs_defs.specs.declared.runs.WrittenRun.{WrittenRun}
-use Rattle.ntfs_defs.specs.declared.runs.RunDamage.{RunDamage}
-use Rattle.ntfs_defs.specs.declared.runs.RunDamage.TheVariants.{TooLong, Short, ZeroRun, Negative, Outside}
+use Rattle.ntfs_defs.specs.declared.fault.RunFault.{RunFault}
+use Rattle.ntfs_defs.specs.declared.fault.RunFault.TheVariants.{TooLong, ZeroRun, Negative, Outside}
+use Rattle.ntfs_defs.specs.WrittenRuns.{run_list}
 
 -- a hole moves nothing
 abbrev pub offset_or_0 : Option ℤ → ℤ
@@ -22,51 +23,33 @@ abbrev pub begin_behind : List WrittenRun → Option ℤ → Option ℤ
 begin_behind front None = None
 begin_behind front (Some offset) = Some (sum_of_offsets front +ℤ offset)
 
--- so many clusters from a begin on are clusters of the volume
-abbrev pub IsOnVolume : ℕ → ℕ → Option ℤ → Type 0
-IsOnVolume clusters len None = Unit {0}
-IsOnVolume clusters len (Some (pos first)) = first + len ≤ clusters
-IsOnVolume clusters len (Some (negsuc n)) = ⊥
+-- a test, and what is wrong where it holds
+abbrev pub Check : Type 0
+Check = Bool × RunFault
 
--- a run behind these runs is sound
-pub record IsSound (clusters : ℕ) (front : List WrittenRun) (run : WrittenRun) : Type 0 where
-  pub some : 0 < run.len
-  pub at_most : sum_of_lengths front + run.len ≤ 2 ^ 48
-  pub on_volume : IsOnVolume clusters run.len (begin_behind front run.offset)
+-- what can be wrong with the clusters of a run that begins at a number
+abbrev pub begin_checks : ℕ → ℕ → ℕ → Option ℤ → List Check
+begin_checks clusters at len None = []
+begin_checks clusters at len (Some (negsuc n)) = (true, Negative at) ∷ []
+begin_checks clusters at len (Some (pos first)) = (nat_lt clusters (first + len), Outside at first) ∷ []
 
--- a begin below cluster 0
-abbrev pub IsBelow : Option ℤ → Type 0
-IsBelow None = ⊥
-IsBelow (Some (pos first)) = ⊥
-IsBelow (Some (negsuc n)) = Unit {0}
+-- what can be wrong with a run behind these runs, in order
+abbrev pub checks_of : ℕ → List WrittenRun → WrittenRun → List Check
+checks_of clusters front run =
+    (run.len == 0, ZeroRun run.at)
+    ∷ (nat_lt (2 ^ 48) (sum_of_lengths front + run.len), TooLong run.at)
+    ∷ begin_checks clusters run.at run.len (begin_behind front run.offset)
 
--- a run isn't on the volume
-abbrev pub IsOffVolume : ℕ → ℕ → ℕ → Option ℤ → RunDamage → Type 0
-IsOffVolume clusters at len begin (TooLong place) = ⊥
-IsOffVolume clusters at len begin (Short place) = ⊥
-IsOffVolume clusters at len begin (ZeroRun place) = ⊥
-IsOffVolume clusters at len begin (Negative place) = (at ≡ place) × IsBelow begin
-IsOffVolume clusters at len begin (Outside place first) = (at ≡ place) × (begin ≡ Some (pos first)) × (clusters < first + len)
+-- the first of these things that is wrong, or else what is wrong behind them
+abbrev pub first_of : List Check → Option RunFault → Option RunFault
+first_of [] behind = behind
+first_of (check ∷ checks) behind = if check.0 then Some check.1 else first_of checks behind
 
--- what is wrong with a run behind these runs: what comes later in this order is only said where nothing before it is wrong
-abbrev pub HasDamage : ℕ → List WrittenRun → WrittenRun → RunDamage → Type 0
-HasDamage clusters front run (Short place) = ⊥
-HasDamage clusters front run (ZeroRun place) = (run.at ≡ place) × (run.len ≡ 0)
-HasDamage clusters front run (TooLong place) = (run.at ≡ place) × (0 < run.len) × (2 ^ 48 < sum_of_lengths front + run.len)
-HasDamage clusters front run (Negative place) =
-    (0 < run.len) × (sum_of_lengths front + run.len ≤ 2 ^ 48)
-    × IsOffVolume clusters run.at run.len (begin_behind front run.offset) (Negative place)
-HasDamage clusters front run (Outside place first) =
-    (0 < run.len) × (sum_of_lengths front + run.len ≤ 2 ^ 48)
-    × IsOffVolume clusters run.at run.len (begin_behind front run.offset) (Outside place first)
+-- the first thing that is wrong with the runs behind these runs, or else with what stands behind them all
+abbrev pub first_wrong : ℕ → List WrittenRun → List WrittenRun → Option RunFault → Option RunFault
+first_wrong clusters front [] end = end
+first_wrong clusters front (run ∷ runs) end = first_of (checks_of clusters front run) (first_wrong clusters (front ++ run ∷ []) runs end)
 
--- the runs behind these runs are sound, each behind all that stand in front of it
-abbrev pub AreSound : ℕ → List WrittenRun → List WrittenRun → Type 0
-AreSound clusters front [] = Unit {0}
-AreSound clusters front (run ∷ runs) = IsSound clusters front run × AreSound clusters (front ++ run ∷ []) runs
-
--- the first damage of the runs behind these runs, or else of what stands behind them all
-abbrev pub IsFirstDamage : ℕ → List WrittenRun → List WrittenRun → Option RunDamage → RunDamage → Type 0
-IsFirstDamage clusters front [] end damage = end ≡ Some damage
-IsFirstDamage clusters front (run ∷ runs) end damage =
-    HasDamage clusters front run damage ⊎ (IsSound clusters front run × IsFirstDamage clusters (front ++ run ∷ []) runs end damage)
+-- the first thing that is wrong with a run list
+abbrev pub first_damage : ℕ → List ℕ → Option RunFault
+first_damage clusters bytes = first_wrong clusters [] (run_list bytes).runs (run_list bytes).damage

@@ -5,8 +5,8 @@ use Rattle.std.proofs.lemmas.Bool.{le-leb}
 use Rattle.std.proofs.lemmas.Bool.Decides.{nat_tests}
 use Rattle.ntfs_defs.specs.declared.runs.Run.{Run}
 use Rattle.ntfs_defs.specs.declared.runs.WrittenRun.{WrittenRun}
-use Rattle.ntfs_defs.specs.declared.runs.RunDamage.{RunDamage}
-use Rattle.ntfs_defs.specs.declared.runs.RunDamage.TheVariants.{TooLong, Short}
+use Rattle.ntfs_defs.specs.declared.fault.RunFault.{RunFault}
+use Rattle.ntfs_defs.specs.declared.fault.RunFault.TheVariants.{TooLong, Short}
 use Rattle.ntfs_defs.specs.WrittenRuns.{length_bytes, offset_bytes, run_with, run_behind, run_at, RunList, list_with, list_within, list_from}
 use Rattle.ntfs_defs.specs.DecodedRuns.{base_after, behind_runs, followed_by, checked_run, runs_behind, decoded_runs}
 
@@ -54,7 +54,7 @@ run_at-inside bytes at run found =
     grind (arith, nat_tests, inside)
 
 -- lists with the same behind a run are the same
-list_with-same : (first : Result (Option WrittenRun) RunDamage) (behind other : ℕ → RunList)
+list_with-same : (first : Result (Option WrittenRun) RunFault) (behind other : ℕ → RunList)
     → ((run : WrittenRun) → first ≡ Ok (Some run) → behind run.next ≡ other run.next) → list_with first behind ≡ list_with first other
 list_with-same (Ok (Some run)) behind other same = ap (λ list. list_with (Ok (Some run)) (λ next. list)) (same run refl)
 list_with-same (Ok None) behind other same = refl
@@ -93,7 +93,7 @@ unfolding list_from
 list_from-next bytes at = list_from-count (length bytes - at) bytes at refl
 
 -- what the runs of a list give
-of_list : ℕ → ℕ → ℕ → RunList → Result (List Run) RunDamage
+of_list : ℕ → ℕ → ℕ → RunList → Result (List Run) RunFault
 of_list clusters base total list = runs_behind clusters base total list.runs list.damage
 
 -- a walk over the runs: those that were found, and those from its place on, are all
@@ -101,11 +101,11 @@ pub record IsDecodedTo (clusters : ℕ) (bytes : List ℕ) (runs : List Run) (ba
   pub whole : decoded_runs clusters bytes
       ≡ behind_runs runs (runs_behind clusters base total (list_from bytes at).runs (list_from bytes at).damage)
 
-behind_runs-none : (rest : Result (List Run) RunDamage) → rest ≡ behind_runs [] rest
+behind_runs-none : (rest : Result (List Run) RunFault) → rest ≡ behind_runs [] rest
 behind_runs-none (Ok runs) = refl
 behind_runs-none (Err damage) = refl
 
-behind_runs-append : (runs more : List Run) (rest : Result (List Run) RunDamage)
+behind_runs-append : (runs more : List Run) (rest : Result (List Run) RunFault)
     → behind_runs runs (behind_runs more rest) ≡ behind_runs (runs ++ more) rest
 behind_runs-append runs more (Ok rest) = ap Ok (sym (append_assoc runs more rest))
 behind_runs-append runs more (Err damage) = refl
@@ -116,7 +116,7 @@ decoding_starts clusters bytes = record {
 }
 
 -- what the walk comes to, by what begins at its place
-decoded_at : (clusters : ℕ) (bytes : List ℕ) (runs : List Run) (base total at : ℕ) (first : Result (Option WrittenRun) RunDamage)
+decoded_at : (clusters : ℕ) (bytes : List ℕ) (runs : List Run) (base total at : ℕ) (first : Result (Option WrittenRun) RunFault)
     → IsDecodedTo clusters bytes runs base total at → run_at bytes at ≡ first
     → decoded_runs clusters bytes ≡ behind_runs runs (of_list clusters base total (list_with first (list_from bytes)))
 unfolding of_list
@@ -131,13 +131,13 @@ unfolding of_list
 decoding_ends clusters bytes runs base total at walked is =
     decoded_at clusters bytes runs base total at (Ok None) walked is ∙ ap Ok (append-nil runs)
 
-pub decoding_stops : (clusters : ℕ) (bytes : List ℕ) (runs : List Run) (base total at : ℕ) (damage : RunDamage)
+pub decoding_stops : (clusters : ℕ) (bytes : List ℕ) (runs : List Run) (base total at : ℕ) (damage : RunFault)
     → IsDecodedTo clusters bytes runs base total at → run_at bytes at ≡ Err damage → decoded_runs clusters bytes ≡ Err damage
 unfolding of_list
 decoding_stops clusters bytes runs base total at damage walked is = decoded_at clusters bytes runs base total at (Err damage) walked is
 
 -- the walk at a run
-decoded_run : (clusters : ℕ) (bytes : List ℕ) (runs : List Run) (base total at : ℕ) (written : WrittenRun) (checked : Result Run RunDamage)
+decoded_run : (clusters : ℕ) (bytes : List ℕ) (runs : List Run) (base total at : ℕ) (written : WrittenRun) (checked : Result Run RunFault)
     → IsDecodedTo clusters bytes runs base total at → run_at bytes at ≡ Ok (Some written) → checked_run clusters base total written ≡ checked
     → decoded_runs clusters bytes
     ≡ behind_runs runs (followed_by checked (λ run. of_list clusters (base_after base run.cluster) (total + run.len) (list_from bytes written.next)))
@@ -156,7 +156,7 @@ decoding_goes_on clusters bytes runs base total at written run walked found is =
       ∙ behind_runs-append runs (run ∷ []) (of_list clusters (base_after base run.cluster) (total + run.len) (list_from bytes written.next));
 }
 
-pub decoding_refuses : (clusters : ℕ) (bytes : List ℕ) (runs : List Run) (base total at : ℕ) (written : WrittenRun) (damage : RunDamage)
+pub decoding_refuses : (clusters : ℕ) (bytes : List ℕ) (runs : List Run) (base total at : ℕ) (written : WrittenRun) (damage : RunFault)
     → IsDecodedTo clusters bytes runs base total at → run_at bytes at ≡ Ok (Some written) → checked_run clusters base total written ≡ Err damage
     → decoded_runs clusters bytes ≡ Err damage
 unfolding of_list

@@ -6,14 +6,14 @@ use Rattle.std.proofs.lemmas.List.Elements.{All-cons, All-head, All-nil, All-tai
 use Rattle.std.proofs.lemmas.List.Sums.{sum_by-cons}
 use Rattle.ntfs_defs.specs.declared.runs.Run.{Run}
 use Rattle.ntfs_defs.specs.declared.runs.WrittenRun.{WrittenRun}
-use Rattle.ntfs_defs.specs.declared.runs.RunDamage.{RunDamage}
-use Rattle.ntfs_defs.specs.declared.runs.RunDamage.TheVariants.{TooLong, ZeroRun, Outside}
+use Rattle.ntfs_defs.specs.declared.fault.RunFault.{RunFault}
+use Rattle.ntfs_defs.specs.declared.fault.RunFault.TheVariants.{TooLong, ZeroRun, Outside}
 use Rattle.ntfs_defs.specs.WrittenRuns.{run_list}
 use Rattle.ntfs_defs.specs.Clusters.{Stored, VirtualCluster, stored, cluster_of_run, base_behind, cluster_from, cluster, virtual_clusters, cluster_in_run, cluster_in}
 use Rattle.ntfs_defs.specs.DecodedRuns.{cluster_of_number, begin_of, run_from, run_by, checked_run, base_after, behind_runs, followed_by, runs_behind, decoded_runs}
 
 -- a test that a value passed
-past_test : {X : Type 0} (test : Bool) (damage : RunDamage) (rest : Result X RunDamage) (x : X)
+past_test : {X : Type 0} (test : Bool) (damage : RunFault) (rest : Result X RunFault) (x : X)
     → (if test then Err damage else rest) ≡ Ok x → (test ≡ false) × (rest ≡ Ok x)
 past_test true damage rest x is = absurd (cc)
 past_test false damage rest x is = (refl, is)
@@ -69,12 +69,12 @@ checked_run-ok clusters base total written run found =
     (grind (arith, nat_tests, some.0), grind (arith, nat_tests, short.0), run_by-ok clusters base total written.at written.len written.offset run short.1)
 
 -- what is told where runs, and what is behind them, are all these runs
-behind_runs-ok : (runs : List Run) (rest : Result (List Run) RunDamage) (all : List Run) → behind_runs runs rest ≡ Ok all
+behind_runs-ok : (runs : List Run) (rest : Result (List Run) RunFault) (all : List Run) → behind_runs runs rest ≡ Ok all
     → (more : List Run) × (rest ≡ Ok more) × (runs ++ more ≡ all)
 behind_runs-ok runs (Ok more) all found = (more, refl, cc)
 behind_runs-ok runs (Err damage) all found = absurd (cc)
 
-followed_by-ok : (first : Result Run RunDamage) (behind : Run → Result (List Run) RunDamage) (all : List Run) → followed_by first behind ≡ Ok all
+followed_by-ok : (first : Result Run RunFault) (behind : Run → Result (List Run) RunFault) (all : List Run) → followed_by first behind ≡ Ok all
     → (run : Run) × (more : List Run) × (first ≡ Ok run) × (behind run ≡ Ok more) × (run ∷ more ≡ all)
 followed_by-ok (Ok run) behind all found =
     let rest = behind_runs-ok (run ∷ []) (behind run) all found in
@@ -115,7 +115,7 @@ decoded_behind clusters base total first written run runs (some, fits, checked) 
   all_inside = All-cons (λ run. IfSome run.cluster (λ first. first + run.len ≤ clusters)) run runs (rw checked.same_len checked.inside) decoded.all_inside;
 }
 
-runs_behind-ok : (clusters base total : ℕ) (written : List WrittenRun) (damage : Option RunDamage) (runs : List Run)
+runs_behind-ok : (clusters base total : ℕ) (written : List WrittenRun) (damage : Option RunFault) (runs : List Run)
     → runs_behind clusters base total written damage ≡ Ok runs → AreDecodedFrom clusters base total written runs
 runs_behind-ok clusters base total [] None runs found =
     let none : [] ≡ runs = cc in

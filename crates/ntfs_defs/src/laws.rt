@@ -1,11 +1,10 @@
 //! Laws of run lists.
-ghost use Rattle.std.specs.Prelude.{◌≡◌, ◌<◌, ◌≤◌, ◌↔◌, ℕ, IsOk, List, [], sum_by};
+ghost use Rattle.std.specs.Prelude.{◌≡◌, ◌≢◌, ◌<◌, ◌≤◌, ◌↔◌, ℕ, IsOk, List, sum_by};
 ghost use Rattle.ntfs_defs.specs.Clusters.{Stored, cluster, cluster_in, virtual_clusters};
-ghost use Rattle.ntfs_defs.specs.Damage.{AreSound, IsFirstDamage};
+ghost use Rattle.ntfs_defs.specs.Damage.{first_damage};
 ghost use Rattle.ntfs_defs.specs.DecodedRuns.{decoded_runs};
-ghost use Rattle.ntfs_defs.specs.WrittenRuns.{run_list};
 ghost use Rattle.ntfs_defs.specs.declared.runs.Run.{Run};
-ghost use Rattle.ntfs_defs.specs.declared.runs.RunDamage.{RunDamage};
+ghost use Rattle.ntfs_defs.specs.declared.fault.RunFault.{RunFault};
 
 /// The runs of a run list have its cluster at each virtual cluster.
 #[tactic(auto, using(crate::specs::RunLaws::decoded_clusters))]
@@ -35,16 +34,21 @@ pub fn clusters_are_on_the_volume()
         → (v number : ℕ) → cluster bytes v ≡ Some (Stored number) → number < clusters }
 {}
 
-/// A damage is told exactly where it is the first: each run in front of it is sound behind those in front of that one.
+/// A damage is told exactly where it is the first thing that is wrong, by the sums over the runs in front of each run.
 #[tactic(auto, using(crate::specs::DamageLaws::decoded_damage))]
 pub fn the_first_damage_is_told()
-    ensures { (clusters : ℕ) (bytes : List ℕ) (damage : RunDamage) → (decoded_runs clusters bytes ≡ Err damage)
-        ↔ IsFirstDamage clusters [] (run_list bytes).runs (run_list bytes).damage damage }
+    ensures { (clusters : ℕ) (bytes : List ℕ) (fault : RunFault)
+        → (decoded_runs clusters bytes ≡ Err fault) ↔ (first_damage clusters bytes ≡ Some fault) }
 {}
 
-/// Runs are told exactly of a list whose runs are sound and that ends with a header of 0.
+/// Runs are told exactly where nothing is wrong.
 #[tactic(auto, using(crate::specs::DamageLaws::decoded_sound))]
 pub fn sound_lists_are_told()
-    ensures { (clusters : ℕ) (bytes : List ℕ) → IsOk (decoded_runs clusters bytes)
-        ↔ (AreSound clusters [] (run_list bytes).runs × ((run_list bytes).damage ≡ None)) }
+    ensures { (clusters : ℕ) (bytes : List ℕ) → IsOk (decoded_runs clusters bytes) ↔ (first_damage clusters bytes ≡ None) }
+{}
+
+/// Want of memory is no damage of a run list.
+#[tactic(auto, using(crate::specs::DamageLaws::decoded_memory))]
+pub fn want_of_memory_is_no_damage()
+    ensures { (clusters : ℕ) (bytes : List ℕ) → decoded_runs clusters bytes ≢ Err RunFault.NoMemory }
 {}

@@ -1,5 +1,6 @@
 //! What an NTFS volume says.
 #![tactic(auto)]
 
+pub mod fault;
 pub mod laws;
 pub mod runs;

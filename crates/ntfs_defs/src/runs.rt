@@ -16,18 +16,3 @@ pub struct WrittenRun {
     pub len: u64,
     pub offset: Option<i64>,
 }
-
-/// What is wrong with a run list. The header byte of the first run that is wrong stands at `at`.
-#[derive(Clone, Copy, Debug, PartialEq, Eq)]
-pub enum RunDamage {
-    /// The length or the offset has more than 8 bytes, or the runs up to this one have more than 2^48 clusters.
-    TooLong { at: usize },
-    /// The bytes end inside the run, or where a header is to stand.
-    Short { at: usize },
-    /// The run has no cluster.
-    ZeroRun { at: usize },
-    /// The run begins below cluster 0.
-    Negative { at: usize },
-    /// The run begins at `cluster` and ends behind the last cluster of the volume.
-    Outside { at: usize, cluster: u64 },
-}

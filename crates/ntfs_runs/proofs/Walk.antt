@@ -1,15 +1,12 @@
 -- The walk over the runs of a run list.
-use Rattle.std.proofs.Common.{◌≡◌, ℕ, ◌+◌, ◌^◌, ◌≤◌, Option, Some, None, IfSome, Result, Ok, Err, List, [], ◌∷◌, ◌++◌, refl, arith, subst}
+use Rattle.std.proofs.Common.{◌≡◌, ℕ, ◌+◌, ◌^◌, ◌≤◌, Option, Some, None, IfSome, Ok, List, [], ◌∷◌, ◌++◌, refl, arith, subst}
 use Rattle.std.specs.Prelude.{unwrap_or}
 use Rattle.ntfs_defs.specs.declared.runs.Run.{Run}
 use Rattle.ntfs_defs.specs.declared.runs.WrittenRun.{WrittenRun}
-use Rattle.ntfs_defs.specs.declared.runs.RunDamage.{RunDamage}
-use Rattle.ntfs_defs.specs.declared.runs.RunDamage.TheVariants.{TooLong, Short, ZeroRun, Negative, Outside}
 use Rattle.ntfs_defs.specs.WrittenRuns.{run_at}
 use Rattle.ntfs_defs.specs.DecodedRuns.{base_after, checked_run}
 use Rattle.ntfs_defs.specs.ListLaws.{IsDecodedTo, decoding_starts, decoding_goes_on}
 use Rattle.ntfs_defs.specs.RunLaws.{checked_run-ok}
-use Rattle.ntfs_runs.specs.Faults.{fault_of, IsFaultOf}
 
 -- what the loop keeps: its runs, and those from its place on, are all, and its numbers are within their limits
 pub record IsWalked (clusters : ℕ) (bytes : List ℕ) (runs : List Run) (base total at : ℕ) : Type 0 where
@@ -45,11 +42,3 @@ walk_goes_on clusters bytes runs base total at written run few walked found is =
       base_inside = base_after-inside clusters base written.len run.cluster few walked.base_inside (checked.2).inside;
       total_fits = omega (arith, checked.1, (checked.2).same_len);
     })
-
--- the fault that names a damage is a fault of the runs that have it
-pub is_fault_of : (runs : Result (List Run) RunDamage) (damage : RunDamage) → runs ≡ Err damage → IsFaultOf runs (fault_of damage)
-is_fault_of runs (TooLong at) is = is
-is_fault_of runs (Short at) is = is
-is_fault_of runs (ZeroRun at) is = is
-is_fault_of runs (Negative at) is = is
-is_fault_of runs (Outside at cluster) is = is

@@ -1,19 +1,18 @@
 //! Decoding a run list.
-ghost use Rattle.std.specs.Prelude.{◌≡◌, ◌+◌, ◌^◌, ◌≤◌, ◌<◌, ◌↔◌, ℕ, IfOk, IfErr, IfSome, All, sum_by};
+ghost use Rattle.std.specs.Prelude.{◌≡◌, ◌≢◌, ◌+◌, ◌^◌, ◌≤◌, ◌<◌, ◌↔◌, ℕ, IfOk, IfErr, IfSome, All, sum_by};
 ghost use Rattle.ntfs_defs.specs.Clusters.{cluster, cluster_in, virtual_clusters};
 ghost use Rattle.ntfs_defs.specs.DecodedRuns.{decoded_runs};
-ghost use Rattle.ntfs_runs.specs.Faults.{IsFaultOf};
 
-use crate::fault::RunFault;
 use crate::runs::Runs;
 use crate::written::{checked_run, run_at};
+use ntfs_defs::fault::RunFault;
 use std::alloc::Global;
 
 /// The runs that a run list says, on a volume of so many clusters.
 pub fn decode_runs(alloc: Global, bytes: &[u8], clusters: u64) -> Result<Runs, RunFault>
     requires { clusters ≤ 2 ^ 63 }
     ensures runs { IfOk result (λ runs. decoded_runs clusters bytes.now ≡ Ok runs) }
-    ensures fault { IfErr result (λ fault. IsFaultOf (decoded_runs clusters bytes.now) fault) }
+    ensures fault { IfErr result (λ fault. fault ≢ RunFault.NoMemory → decoded_runs clusters bytes.now ≡ Err fault) }
 
     // What each virtual cluster is, how many there are, and that nothing stands behind them.
     ensures at_each { IfOk result (λ runs. (v : ℕ) → cluster_in runs v ≡ cluster bytes.now v) }

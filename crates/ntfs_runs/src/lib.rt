@@ -2,13 +2,12 @@
 #![tactic(auto)]
 
 pub mod decode;
-pub mod fault;
 pub mod runs;
 #[cfg(test)]
 mod tests;
 pub(crate) mod written;
 
 pub use decode::decode_runs;
-pub use fault::RunFault;
+pub use ntfs_defs::fault::RunFault;
 pub use ntfs_defs::runs::Run;
 pub use runs::Runs;

@@ -1,20 +1,22 @@
 //! The runs of a run list, one at a time.
 ghost use Rattle.std.specs.Prelude.{◌≡◌, ◌+◌, ◌^◌, ◌≤◌, ◌<◌, length, ℤ, pos};
-ghost use Rattle.ntfs_defs.specs.WrittenRuns.{run_at as run_at_by, length_at as length_at_by, offset_at as offset_at_by};
+ghost use Rattle.ntfs_defs.specs.WrittenRuns.{run_at as run_at_by, offset_at as offset_at_by};
+ghost use Rattle.bytes_defs.specs.Numbers.{little_at};
 ghost use Rattle.ntfs_defs.specs.DecodedRuns.{begin_of, checked_run as checked_run_by};
 
 use byteorder::{ByteOrder, LittleEndian};
-use ntfs_defs::runs::{Run, RunDamage, WrittenRun};
+use ntfs_defs::fault::RunFault;
+use ntfs_defs::runs::{Run, WrittenRun};
 
 /// The runs of one list have at most so many clusters together.
 const MOST_CLUSTERS: u64 = 1 << 48;
 
 /// The length in `count` bytes from a place on.
-#[tactic(auto, using(crate::proofs::Reading::rest_from), unfolding(ntfs_defs::specs::WrittenRuns::length_at))]
+#[tactic(auto, using(bytes_defs::specs::NumberLaws::field_reads), unfolding(bytes_defs::specs::Numbers::number_at))]
 fn length_at(bytes: &[u8], at: usize, count: usize) -> u64
     requires few { count ≤ 8 }
     requires inside { at + count ≤ length bytes.now }
-    ensures { result ≡ length_at_by bytes.now at count }
+    ensures { result ≡ little_at count bytes.now at }
 {
     if count == 0 {
         return 0;
@@ -23,7 +25,7 @@ fn length_at(bytes: &[u8], at: usize, count: usize) -> u64
 }
 
 /// The offset in `count` bytes from a place on; None where there are no bytes.
-#[tactic(auto, using(crate::proofs::Reading::rest_from), unfolding(ntfs_defs::specs::WrittenRuns::offset_at))]
+#[tactic(auto, using(bytes_defs::specs::NumberLaws::field_reads), unfolding(ntfs_defs::specs::WrittenRuns::offset_at))]
 fn offset_at(bytes: &[u8], at: usize, count: usize) -> Option<i64>
     requires few { count ≤ 8 }
     requires inside { at + count ≤ length bytes.now }
@@ -37,11 +39,11 @@ fn offset_at(bytes: &[u8], at: usize, count: usize) -> Option<i64>
 
 /// The run whose header byte stands at a place; None where the list ends there.
 #[tactic(auto, unfolding(ntfs_defs::specs::WrittenRuns::run_at, ntfs_defs::specs::WrittenRuns::run_behind, ntfs_defs::specs::WrittenRuns::run_with))]
-pub(crate) fn run_at(bytes: &[u8], at: usize) -> Result<Option<WrittenRun>, RunDamage>
+pub(crate) fn run_at(bytes: &[u8], at: usize) -> Result<Option<WrittenRun>, RunFault>
     ensures { result ≡ run_at_by bytes.now at }
 {
     let Some(header) = bytes.get(at) else {
-        return Err(RunDamage::Short { at });
+        return Err(RunFault::Short { at });
     };
     if *header == 0 {
         return Ok(None);
@@ -49,12 +51,12 @@ pub(crate) fn run_at(bytes: &[u8], at: usize) -> Result<Option<WrittenRun>, RunD
     let length_bytes = usize::from(*header % 16);
     let offset_bytes = usize::from(*header / 16);
     if length_bytes > 8 || offset_bytes > 8 {
-        return Err(RunDamage::TooLong { at });
+        return Err(RunFault::TooLong { at });
     }
     let offset = at + 1 + length_bytes;
     let next = offset + offset_bytes;
     if bytes.len() < next {
-        return Err(RunDamage::Short { at });
+        return Err(RunFault::Short { at });
     }
     Ok(Some(WrittenRun {
         at,
@@ -81,7 +83,7 @@ pub(crate) fn checked_run(
     base: u64,
     total: u64,
     clusters: u64,
-) -> Result<Run, RunDamage>
+) -> Result<Run, RunFault>
     requires few_clusters { clusters ≤ 2 ^ 63 }
     requires base_inside { base ≤ 2 ^ 63 }
     requires total_fits { total ≤ 2 ^ 48 }
@@ -90,19 +92,19 @@ pub(crate) fn checked_run(
     let at = written.at;
     let len = written.len;
     if len == 0 {
-        return Err(RunDamage::ZeroRun { at });
+        return Err(RunFault::ZeroRun { at });
     }
     if len > MOST_CLUSTERS - total {
-        return Err(RunDamage::TooLong { at });
+        return Err(RunFault::TooLong { at });
     }
     let Some(offset) = written.offset else {
         return Ok(Run { len, cluster: None });
     };
     let Some(cluster) = begin(base, offset) else {
-        return Err(RunDamage::Negative { at });
+        return Err(RunFault::Negative { at });
     };
     if cluster > clusters || len > clusters - cluster {
-        return Err(RunDamage::Outside { at, cluster });
+        return Err(RunFault::Outside { at, cluster });
     }
     Ok(Run {
         len,

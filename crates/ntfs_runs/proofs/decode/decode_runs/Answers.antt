@@ -1,9 +1,8 @@
 use Rattle.std.proofs.Common.{Ok, arith, ap, sym, ◌∙◌}
 use Rattle.std.proofs.lemmas.Result.{err_from_is_err_and}
-use Rattle.ntfs_defs.specs.DecodedRuns.{decoded_runs}
 use Rattle.ntfs_defs.specs.ListLaws.{run_at-next, run_at-inside, decoding_stops, decoding_refuses, decoding_ends}
 use Rattle.ntfs_defs.specs.RunLaws.{checked_run-ok, decoded_clusters, decoded_sum, decoded_end, decoded_at_most, decoded_none_empty, decoded_all_inside}
-use Rattle.ntfs_runs.proofs.Walk.{walk_goes_on, is_fault_of}
+use Rattle.ntfs_runs.proofs.Walk.{walk_goes_on}
 use Rattle.ntfs_runs.proofs.decode.decode_runs.Goals as goal
 
 pub returns-in_err-written-clause-fault : goal.returns-in_err-written-clause-fault
@@ -12,7 +11,7 @@ returns-in_err-written-clause-fault c =
     let stops =
     decoding_stops c.args.clusters c.args.bytes.now c.loop-runs.runs.items c.loop-runs.base c.loop-runs.total c.loop-runs.at c.in_err-written.field-0.0
     c.loop-runs.invariant.decoded (sym c.run_at.ensures ∙ c.in_err-written.was) in
-    rw (fault.1, fault.2) (is_fault_of (decoded_runs c.args.clusters c.args.bytes.now) c.in_err-written.field-0.0 stops)
+    rw (fault.1, fault.2) (λ damage. stops)
 
 pub returns-in_err-run-clause-fault : goal.returns-in_err-run-clause-fault
 returns-in_err-run-clause-fault c =
@@ -21,7 +20,7 @@ returns-in_err-run-clause-fault c =
     decoding_refuses c.args.clusters c.args.bytes.now c.loop-runs.runs.items c.loop-runs.base c.loop-runs.total c.loop-runs.at c.in-Some.written
     c.in_err-run.field-0.0 c.loop-runs.invariant.decoded (sym c.run_at.ensures ∙ c.in_ok-written.was ∙ ap Ok c.in-Some.is)
     (sym c.checked_run.ensures ∙ c.in_err-run.was) in
-    rw (fault.1, fault.2) (is_fault_of (decoded_runs c.args.clusters c.args.bytes.now) c.in_err-run.field-0.0 refuses)
+    rw (fault.1, fault.2) (λ damage. refuses)
 
 pub overflow_add-total : goal.overflow_add-total
 overflow_add-total c =
