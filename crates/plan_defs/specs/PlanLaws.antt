@@ -11,6 +11,7 @@ use Rattle.range_defs.specs.declared.Claim.{Claim}
 use Rattle.range_defs.specs.Places.{covers, IsLeast, least_below, EndsInReach}
 use Rattle.range_defs.specs.RangeLaws.{EndsBy as RangeEndsBy, covers-past}
 use Rattle.range_defs.specs.LeastLaws.{same_as_least_below}
+use Rattle.range_defs.specs.declared.TheConstants.{REACH}
 use Rattle.range_defs.specs.Claims.{painted, IsFillMap, HaveOneFill}
 use Rattle.range_defs.specs.ClaimLaws.{EndsBy, painted-past, same_as_longest_claims, ends_where_painted}
 use Rattle.rx_ranges.specs.declared.pieces.PieceKind.{PieceKind}
@@ -102,9 +103,9 @@ file-within tree files index file within files_are inside is =
 
 -- and so in reach
 pub file-in_reach : (tree : FoundTree) (files : List FileEntry) (index : ℕ) (file : FileEntry) → IsWithin tree → files ≡ tree.files
-    → index < length files → file ≡ get_or files index file → ArePartsWithin 9223372036854775808 file.parts
+    → index < length files → file ≡ get_or files index file → ArePartsWithin REACH file.parts
 file-in_reach tree files index file within files_are inside is =
-    parts-longer tree.image_len 9223372036854775808 file.parts (omega (arith, within.in_reach))
+    parts-longer tree.image_len REACH file.parts (omega (arith, within.in_reach))
     (file-within tree files index file within files_are inside is)
 
 -- the fill of the rule with a number
@@ -182,12 +183,6 @@ ranges-within tree rules ranges within kept same =
     ends_where_painted ranges tree.image_len kept
     (λ byte behind. same byte ∙ painted-past (all_claims rules tree.files) tree.image_len byte
     (claims-within tree.image_len rules tree.files within.files) behind)
-
--- and so in reach
-pub ranges-in_reach : (tree : FoundTree) (rules : List Rule) (ranges : List Claim) → IsWithin tree → IsFillMap ranges
-    → ((byte : ℕ) → painted ranges byte ≡ planned_at rules tree.files byte) → All (λ claim. EndsInReach claim.range) ranges
-ranges-in_reach tree rules ranges within kept same =
-    claims-in_reach tree.image_len ranges within.in_reach (ranges-within tree rules ranges within kept same)
 
 -- the parts of a plan, and that they are the plan
 pub plan-by_parts : (tree : FoundTree) (rules : List Rule) (ranges : List Claim) (planned : List Range) (lines : List Listed)

@@ -1,10 +1,10 @@
 //! Makes the plan of a tree and its rules.
 #![tactic(auto)]
 
-ghost use Rattle.std.specs.Prelude.{◌≡◌, ◌&&◌, ℕ, All, Some, None, IfOk, IfSome, IsErrOf, OnOk, is_some};
+ghost use Rattle.std.specs.Prelude.{◌≡◌, ◌&&◌, ℕ, Some, None, IfOk, IfSome, IsErrOf, OnOk, is_some};
 ghost use Rattle.std.specs.Option.{option_map};
 ghost use Rattle.range_defs.specs.Claims.{painted, ranges_of};
-ghost use Rattle.range_defs.specs.Places.{covers, EndsInReach, IsLeast};
+ghost use Rattle.range_defs.specs.Places.{covers, IsLeast};
 ghost use Rattle.plan_defs.specs.Plan.{plan_of, guarded_byte, planning_rule};
 ghost use Rattle.rx_plan.specs.declared.PlanFault.TheVariants.{NoMemory};
 
@@ -47,7 +47,6 @@ fn ranges_of(alloc: Global, claims: &[Claim]) -> Result<Vec<Range>, AllocError>
 
 /// The set of the bytes that are filled.
 fn filled_bytes(alloc: Global, fills: &FillMap) -> Result<RangeList, AllocError>
-    requires { All (λ claim. EndsInReach claim.range) fills.now }
     ensures { IfOk result (λ filled. (byte : ℕ) → covers filled byte ≡ is_some (painted fills.now byte)) }
 {
     let ranges = ranges_of(alloc, fills.items())?;

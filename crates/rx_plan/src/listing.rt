@@ -2,6 +2,7 @@
 ghost use Rattle.std.specs.Prelude.{◌≡◌, ◌++◌, ℕ, List, IfOk, length, map};
 ghost use Rattle.std.specs.List.{flat_map};
 ghost use Rattle.range_defs.specs.Places.{covers};
+ghost use Rattle.range_defs.specs.declared.TheConstants.{REACH};
 ghost use Rattle.rx_tree.specs.Within.{ArePartsWithin};
 ghost use Rattle.rule_defs.specs.declared.Rule.{Rule as RuleValue};
 ghost use Rattle.plan_defs.specs.Plan.{part_ranges, touches_planned, file_lines, listed_as, lines_of};
@@ -24,7 +25,7 @@ fn push_touched_ranges(ranges: &mut Vec<Range>, parts: &[Part]) -> Result<(), No
 
 /// Whether a file touches a byte of a set.
 fn touches(alloc: Global, planned: &RangeList, file: &FileEntry) -> Result<bool, NoMemory>
-    requires { ArePartsWithin 9223372036854775808 file.now.parts }
+    requires { ArePartsWithin REACH file.now.parts }
     ensures { IfOk result (λ touches. (len : ℕ) → ArePartsWithin len file.now.parts
         → touches ≡ touches_planned len (covers planned.now) file.now) }
 {
@@ -63,7 +64,7 @@ fn push_lines_of(
     planned: &RangeList,
     file: &FileEntry,
 ) -> Result<(), NoMemory>
-    requires { ArePartsWithin 9223372036854775808 file.now.parts }
+    requires { ArePartsWithin REACH file.now.parts }
     ensures { IfOk result (λ _. (len : ℕ) → ArePartsWithin len file.now.parts
         → lines.new.items ≡ lines.old.items ++ file_lines len (covers planned.now) listed file.now) }
 {

@@ -11,7 +11,7 @@ pub from_ranges-requires : goal.from_ranges-requires
 from_ranges-requires c =
     let fills = c.args.fills.now in
     let ranges_are = c.in_ok-ranges.ensures ∙ ap ranges_of c.items.ensures.items in
-    All-same EndsInReach _ (ranges_of fills) ranges_are (All-map EndsInReach (λ claim. claim.range) fills c.requires)
+    All-same EndsInReach _ (ranges_of fills) ranges_are (All-map EndsInReach (λ claim. claim.range) fills c.items.ensures.reach)
 
 pub returns : goal.returns
 returns c =

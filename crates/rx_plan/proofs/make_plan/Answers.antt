@@ -8,7 +8,7 @@ use Rattle.rx_tree.specs.Within.{IsWithin}
 use Rattle.rule_defs.specs.declared.Rule.{Rule}
 use Rattle.rule_defs.specs.Numbered.{AreNumbered}
 use Rattle.plan_defs.specs.Plan.{all_claims, planned_at, listed_as}
-use Rattle.plan_defs.specs.PlanLaws.{all_claims-in_reach, claims-one_fill, ranges-in_reach, plan-by_parts, guarded-by_least}
+use Rattle.plan_defs.specs.PlanLaws.{all_claims-in_reach, claims-one_fill, plan-by_parts, guarded-by_least}
 use Rattle.rx_plan.proofs.LeastGuarded.{names_guarded}
 use Rattle.rx_plan.proofs.make_plan.Goals as goal
 
@@ -22,16 +22,6 @@ pub first_wins-requires-clause-one_fill : goal.first_wins-requires-clause-one_fi
 first_wins-requires-clause-one_fill g c =
     let numbered : AreNumbered c.items.result.now = subst (λ (rules : List Rule). AreNumbered rules) (sym c.items.ensures.items) c.items.ensures.numbered in
     subst (λ (claims : List Claim). HaveOneFill claims) (sym c.in_ok-claims.ensures.claims) (claims-one_fill c.items.result.now c.items-2.result.now numbered)
-
-pub filled_bytes-requires : goal.filled_bytes-requires
-filled_bytes-requires g c =
-    let tree = c.args.tree.now in
-    let rules = c.args.rules.now in
-    let within : IsWithin tree = subst (λ (t : FoundTree). IsWithin t) c.tree.view_is c.tree.invariant in
-    let claims_are = c.in_ok-claims.ensures.claims ∙ ap (λ (list : List Rule). all_claims list c.items-2.result.now) c.items.ensures.items
-    ∙ ap (all_claims rules) (c.items-2.ensures.items ∙ ap (λ (t : FoundTree). t.files) c.tree.view_is) in
-    ranges-in_reach tree rules c.in_ok-ranges.ranges within c.in_ok-ranges.ensures.kept
-    (λ byte. c.in_ok-ranges.ensures.bytes byte ∙ ap (λ claims. painted claims byte) claims_are)
 
 pub returns-in-Some-clause-guarded : goal.returns-in-Some-clause-guarded
 returns-in-Some-clause-guarded g c = λ at rule is.
