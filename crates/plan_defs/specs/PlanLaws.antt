@@ -23,6 +23,7 @@ use Rattle.rx_tree.specs.declared.part.Role.TheVariants as roles
 use Rattle.rx_tree.specs.declared.file.FileEntry.{FileEntry}
 use Rattle.rx_tree.specs.FoundPart.{FoundPart}
 use Rattle.rx_tree.specs.FoundTree.{FoundTree}
+use Rattle.piece_defs.specs.Places.{IsWithin as PieceWithin}
 use Rattle.rx_tree.specs.Within.{ArePiecesWithin, AreRangesWithin, ArePartsWithin, AreFilesWithin, IsWithin}
 use Rattle.rule_defs.specs.declared.Rule.{Rule}
 use Rattle.rule_defs.specs.declared.Action.{Action}
@@ -39,7 +40,7 @@ All-flat_map P Q f each (x ∷ xs) all =
     All-append Q (f x) (flat_map f xs) (each x (All-head P x xs all)) (All-flat_map P Q f each xs (All-tail P x xs all))
 
 -- what lies within a length has its bytes there: pieces, parts, files, claims
-disk_range-of_kind : (end from size at : ℕ) (kind : PieceKind) → at + size ≤ end
+disk_range-of_kind : (end from size at : ℕ) (kind : PieceKind) → PieceWithin end kind at size
     → All (RangeEndsBy end) (disk_range (record { from = from; len = size; kind = kind; at = at }))
 disk_range-of_kind end from size at Disk fits =
     All-cons (RangeEndsBy end) (record { at = at; len = size }) [] fits (All-nil (RangeEndsBy end))
@@ -47,7 +48,7 @@ disk_range-of_kind end from size at Zero fits = All-nil (RangeEndsBy end)
 
 disk_ranges-within : (end : ℕ) (part : FoundPart) → ArePiecesWithin end part.pieces → All (RangeEndsBy end) (disk_ranges part)
 disk_ranges-within end part within =
-    All-flat_map (λ piece. piece.at + piece.len ≤ end) (RangeEndsBy end) disk_range
+    All-flat_map (λ piece. PieceWithin end piece.kind piece.at piece.len) (RangeEndsBy end) disk_range
     (λ piece fits. disk_range-of_kind end piece.from piece.len piece.at piece.kind fits) part.pieces within
 
 content_range-of_role : (end : ℕ) (role : Role) (part : FoundPart) → ArePiecesWithin end part.pieces
@@ -83,13 +84,17 @@ claims-within end rules files within =
     All-flat_map (λ file. ArePartsWithin end file.parts) (EndsBy end) (claims_on rules)
     (λ file fits. claims_by-within end (settling_rule rules file) file fits) files within
 
+piece-longer : (short long : ℕ) (kind : PieceKind) (at size : ℕ) → short ≤ long → PieceWithin short kind at size → PieceWithin long kind at size
+piece-longer short long Disk at size longer less = omega (arith, longer, less)
+piece-longer short long Zero at size longer less = tt
+
 -- what a file is said to lie within can be longer
 pub parts-longer : (short long : ℕ) (parts : List FoundPart) → short ≤ long → ArePartsWithin short parts → ArePartsWithin long parts
-parts-longer short long parts fits within =
+parts-longer short long parts longer within =
     All-weaker (λ part. ArePiecesWithin short part.pieces × AreRangesWithin short part.slack)
     (λ part. ArePiecesWithin long part.pieces × AreRangesWithin long part.slack)
     (λ part both. (
-      All-weaker (λ piece. piece.at + piece.len ≤ short) (λ piece. piece.at + piece.len ≤ long) (λ piece less. omega (arith, less)) part.pieces both.0,
+      All-weaker (λ piece. PieceWithin short piece.kind piece.at piece.len) (λ piece. PieceWithin long piece.kind piece.at piece.len) (λ piece less. piece-longer short long piece.kind piece.at piece.len longer less) part.pieces both.0,
       All-weaker (RangeEndsBy short) (RangeEndsBy long) (λ range less. omega (arith, less)) part.slack both.1,
     ))
     parts within

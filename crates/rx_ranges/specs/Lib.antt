@@ -1,2 +1,3 @@
 pub mod Hull
+pub mod Path
 pub mod Laying

@@ -16,4 +16,4 @@ pub use pieces::{Piece, PieceKind, Pieces};
 pub use plan::{ListKind, Listed, Listing, Plan};
 pub use range_defs::{Claim, Range};
 pub use ranges::RangeList;
-pub use text::{NoMemory, Text};
+pub use text::{MAX_PATH, NoMemory, Text};

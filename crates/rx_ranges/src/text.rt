@@ -7,6 +7,9 @@ use std::marker::Model;
 /// There was no memory.
 pub type NoMemory = AllocError;
 
+/// The greatest length of a path, in bytes.
+pub const MAX_PATH: usize = 65_535;
+
 /// Printed text: UTF-8 that a report or a listing shows.
 #[derive(Debug, Drop)]
 pub struct Text {

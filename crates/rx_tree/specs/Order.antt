@@ -1,5 +1,6 @@
 -- The order in which files and volumes stand.
-use Rattle.std.specs.Prelude.{ℕ, ◌<◌, Bool, ◌&&◌, ◌||◌, ◌==◌, IsTrue, nat_lt, List, [], ◌∷◌}
+use Rattle.std.specs.Prelude.{ℕ, ◌<◌, Bool, ◌&&◌, ◌||◌, ◌==◌, All, IsTrue, nat_lt, List, [], ◌∷◌}
+use Rattle.std.specs.List.{list_any}
 use Rattle.rx_tree.specs.declared.file.FileId.{FileId}
 use Rattle.rx_tree.specs.declared.file.FileEntry.{FileEntry}
 use Rattle.rx_tree.specs.declared.volume.Volume.{Volume}
@@ -25,3 +26,11 @@ IsBelowFirst number (volume ∷ volumes) = number < volume.number
 abbrev pub HaveRisingNumbers : List Volume → Type 0
 HaveRisingNumbers [] = Unit {0}
 HaveRisingNumbers (volume ∷ volumes) = IsBelowFirst volume.number volumes × HaveRisingNumbers volumes
+
+-- whether a volume has this number
+abbrev pub has_number : ℕ → List Volume → Bool
+has_number number volumes = list_any (λ volume. volume.number == number) volumes
+
+-- each file is in one of the volumes
+abbrev pub AreInVolumes : List Volume → List FileEntry → Type 0
+AreInVolumes volumes files = All (λ file. IsTrue (has_number file.id.volume volumes)) files

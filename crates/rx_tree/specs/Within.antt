@@ -2,6 +2,7 @@
 use Rattle.std.specs.Prelude.{ℕ, ◌+◌, ◌≤◌, All, List}
 use Rattle.range_defs.specs.declared.Range.{Range}
 use Rattle.rx_ranges.specs.declared.pieces.Piece.{Piece}
+use Rattle.piece_defs.specs.Places.{AreWithin}
 use Rattle.rx_tree.specs.FoundPart.{FoundPart}
 use Rattle.rx_tree.specs.FoundTree.{FoundTree}
 use Rattle.rx_tree.specs.declared.file.FileEntry.{FileEntry}
@@ -11,8 +12,9 @@ use Rattle.rx_tree.specs.declared.volume.Volume.{Volume}
 abbrev pub AreRangesWithin : ℕ → List Range → Type 0
 AreRangesWithin len = All (λ range. range.at + range.len ≤ len)
 
+-- pieces whose bytes on the disk end at most at a byte; a run of zeros may be longer
 abbrev pub ArePiecesWithin : ℕ → List Piece → Type 0
-ArePiecesWithin len = All (λ piece. piece.at + piece.len ≤ len)
+ArePiecesWithin len pieces = AreWithin len pieces
 
 abbrev pub ArePartsWithin : ℕ → List FoundPart → Type 0
 ArePartsWithin len = All (λ part. ArePiecesWithin len part.pieces × AreRangesWithin len part.slack)

@@ -8,7 +8,8 @@ pub mod tree;
 pub mod volume;
 
 pub use file::{FileEntry, FileId, Files, Kind};
-pub use names::{MAX_PATH, Names, PathFault, join_path};
+pub use names::{Names, PathFault, join_path};
 pub use part::{Part, Parts, Role};
+pub use rx_ranges::MAX_PATH;
 pub use tree::Tree;
 pub use volume::{FsKind, Volume, Volumes};

@@ -1,35 +1,39 @@
 //! The names of a file: printed paths.
-ghost use Rattle.std.specs.Prelude.{◌≡◌, ◌<◌, ◌≤◌, OnOk, IfOk, IsErrOf, IsSorted, length};
+ghost use Rattle.std.specs.Prelude.{◌≡◌, All, ◌<◌, ◌≤◌, OnOk, IfOk, IsErrOf, IsSorted, length};
 ghost use Rattle.std.specs.Cmp.Lexicographic.{slice_cmp};
 ghost use Rattle.std.specs.Ordering.{nat_cmp};
+ghost use Rattle.rx_ranges.specs.Path.{IsPath};
 ghost use Rattle.rx_tree.specs.Path.{joined_path};
 
-use rx_ranges::Text;
+use rx_ranges::{MAX_PATH, Text};
 use std::alloc::{AllocError, Global};
 use std::marker::Model;
 
-/// The names of a file, sorted by their bytes. Equal ones stay, each by itself.
+/// The names of a file, sorted by their bytes. Equal ones stay, each by itself. Each is a path: it begins with a slash, has
+/// no control character, and has at most 65,535 bytes.
 #[derive(Debug, Drop)]
 pub struct Names {
     names: Vec<Text>,
 }
 
 impl Model for Names {
-    ghost use Rattle.std.specs.Prelude.{List, ℕ, IsSorted};
+    ghost use Rattle.std.specs.Prelude.{List, ℕ, All, IsSorted};
     ghost use Rattle.std.specs.Cmp.Lexicographic.{slice_cmp};
     ghost use Rattle.std.specs.Ordering.{nat_cmp};
+    ghost use Rattle.rx_ranges.specs.Path.{IsPath};
 
     ghost Value = { List (List ℕ) };
 
     ghost view = { λ n. n.names.items };
 
-    ghost invariant = { λ n. IsSorted (slice_cmp nat_cmp) n.names.items };
+    ghost invariant = { λ n. IsSorted (slice_cmp nat_cmp) n.names.items × All IsPath n.names.items };
 }
 
 impl Names {
     /// These names.
     pub fn from_vec(items: Vec<Text>) -> Self
-        requires { IsSorted (slice_cmp nat_cmp) items.items }
+        requires sorted { IsSorted (slice_cmp nat_cmp) items.items }
+        requires paths { All IsPath items.items }
         ensures { result ≡ items.items }
     {
         Names { names: items }
@@ -39,13 +43,11 @@ impl Names {
     pub fn items(&self) -> &[Text]
         ensures items { result.now ≡ self.now }
         ensures sorted { IsSorted (slice_cmp nat_cmp) self.now }
+        ensures paths { All IsPath self.now }
     {
         self.names.as_slice()
     }
 }
-
-/// The greatest length of a path, in bytes.
-pub const MAX_PATH: usize = 65_535;
 
 /// Why a path can't be.
 #[derive(Clone, Copy, Debug, PartialEq, Eq)]

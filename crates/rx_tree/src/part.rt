@@ -1,5 +1,6 @@
 //! The parts of a file: its content, and what else it has in the image.
 ghost use Rattle.std.specs.Prelude.{◌≡◌};
+ghost use Rattle.rx_tree.specs.PartOrder.{ArePartsSorted};
 
 use rx_ranges::{Pieces, RangeList, Text};
 use std::marker::Model;
@@ -16,7 +17,9 @@ pub enum Role {
 /// A part of a file: `size` bytes that its pieces give, and the slack, which is what is allocated for the part and
 /// isn't content. Sizes are in bytes.
 ///
-/// The pieces of a readable part cover its bytes in order, and are the longest possible.
+/// The pieces of a readable part cover its bytes in order, and are the longest possible. Those of an unreadable part are
+/// its runs on the disk, the longest possible; their `from` counts the bytes of what the file system keeps for the part,
+/// and it has no slack.
 #[derive(Debug, Drop)]
 pub struct Part {
     pub role: Role,
@@ -29,7 +32,7 @@ pub struct Part {
 
 impl Model for Part {
     ghost use Rattle.rx_tree.specs.FoundPart.{FoundPart};
-    ghost use Rattle.piece_defs.specs.Covering.{ArePiecesOf};
+    ghost use Rattle.rx_tree.specs.PartPieces.{AreOfPart, ArePlain};
 
     ghost Value = { FoundPart };
 
@@ -42,10 +45,10 @@ impl Model for Part {
       unreadable = p.unreadable;
     } };
 
-    ghost invariant = { λ p. ArePiecesOf p.unreadable p.size p.pieces };
+    ghost invariant = { λ p. AreOfPart p.unreadable p.size p.pieces p.slack × ArePlain p.pieces };
 }
 
-/// The parts of a file.
+/// The parts of a file: by role, Content first, and then by the bytes of their names.
 #[derive(Debug, Drop)]
 pub struct Parts {
     parts: Vec<Part>,
@@ -54,15 +57,19 @@ pub struct Parts {
 impl Model for Parts {
     ghost use Rattle.std.specs.Prelude.{List};
     ghost use Rattle.rx_tree.specs.FoundPart.{FoundPart};
+    ghost use Rattle.rx_tree.specs.PartOrder.{ArePartsSorted};
 
     ghost Value = { List FoundPart };
 
     ghost view = { λ p. p.parts.items };
+
+    ghost invariant = { λ p. ArePartsSorted p.parts.items };
 }
 
 impl Parts {
     /// These parts.
     pub fn from_vec(items: Vec<Part>) -> Self
+        requires { ArePartsSorted items.items }
         ensures { result ≡ items.items }
     {
         Parts { parts: items }
@@ -70,7 +77,8 @@ impl Parts {
 
     /// The parts in order.
     pub fn items(&self) -> &[Part]
-        ensures { result.now ≡ self.now }
+        ensures items { result.now ≡ self.now }
+        ensures sorted { ArePartsSorted self.now }
     {
         self.parts.as_slice()
     }

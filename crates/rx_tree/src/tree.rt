@@ -6,6 +6,7 @@ use std::marker::Model;
 
 /// All that an image of `image_len` bytes says: its volumes, the bytes of partitions that aren't read, its files, and
 /// the guard, which is the bytes on which all this rests. The image has at most 2^46 bytes, and everything lies in it.
+/// Each file is in one of the volumes.
 #[derive(Debug, Drop)]
 pub struct Tree {
     pub image_len: u64,
@@ -18,6 +19,7 @@ pub struct Tree {
 impl Model for Tree {
     ghost use Rattle.rx_tree.specs.FoundTree.{FoundTree};
     ghost use Rattle.rx_tree.specs.Within.{IsWithin};
+    ghost use Rattle.rx_tree.specs.Order.{AreInVolumes};
 
     ghost Value = { FoundTree };
 
@@ -35,5 +37,5 @@ impl Model for Tree {
       unread = t.unread;
       files = t.files;
       guard = t.guard;
-    }) };
+    }) × AreInVolumes t.volumes t.files };
 }

@@ -13,6 +13,8 @@ use Rattle.rx_ranges.specs.declared.pieces.Piece.{Piece}
 use Rattle.rx_ranges.specs.declared.pieces.PieceKind.{PieceKind}
 use Rattle.rx_ranges.specs.declared.pieces.PieceKind.TheVariants.{Disk, Zero}
 use Rattle.piece_defs.specs.Covering.{goes_on, covers_from, ArePiecesOf}
+use Rattle.piece_defs.specs.Places.{IsWithin, IsPlain}
+use Rattle.rx_tree.specs.PartPieces.{ArePlain}
 use Rattle.rx_tree.specs.Within.{ArePiecesWithin}
 use Rattle.piece_defs.specs.Joined.{grown, joined_onto, joined_pieces, joined_onto_grows, joined_onto_stands, joined_onto_all, joined_onto_covers, AreInARow}
 use Rattle.ufs_defs.specs.Blocks.{block_size, block_count, block_place, content_place, block_piece, pieces_within, block_pieces, content_pieces}
@@ -211,7 +213,21 @@ content_pieces_placed len superblock inode some inside =
 pub content_pieces_within : (len : ℕ) (superblock : Superblock) (inode : Inode) → 0 < block_size superblock → AreBlocksWithin len superblock inode
     → ArePiecesWithin len (content_pieces superblock inode)
 content_pieces_within len superblock inode some inside =
-    All-weaker (IsPlaced len superblock inode) (λ piece. piece.at + piece.len ≤ len) (λ piece placed. placed.within) (content_pieces superblock inode) (content_pieces_placed len superblock inode some inside)
+    All-weaker (IsPlaced len superblock inode) (λ piece. IsWithin len piece.kind piece.at piece.len) (λ piece placed. of_kind piece.kind piece.at piece.len placed.within) (content_pieces superblock inode) (content_pieces_placed len superblock inode some inside)
+  where
+    of_kind : (kind : PieceKind) (at size : ℕ) → at + size ≤ len → IsWithin len kind at size
+    of_kind Disk at size fits = fits
+    of_kind Zero at size fits = tt
+
+-- none of them is a hole
+pub content_pieces_plain : (superblock : Superblock) (inode : Inode) → 0 < block_size superblock → ArePlain (content_pieces superblock inode)
+content_pieces_plain superblock inode some =
+    All-weaker (λ piece. piece.kind ≡ Disk) (λ piece. IsPlain piece.kind piece.at) (λ piece disk. on_disk piece.kind piece.at disk) (content_pieces superblock inode)
+    (content_pieces_all (λ piece. piece.kind ≡ Disk) superblock inode some (λ begun next first second goes follows. first) (λ block below. refl))
+  where
+    on_disk : (kind : PieceKind) (at : ℕ) → kind ≡ Disk → IsPlain kind at
+    on_disk Disk at disk = tt
+    on_disk Zero at disk = absurd cc
 
 -- ---- a walk over the blocks
 

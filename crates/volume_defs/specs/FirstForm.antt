@@ -1,6 +1,6 @@
 -- Images of the first form: a UFS2 whose blocks are fragments and whose root, of at most one block, holds files of at
 -- most twelve.
-use Rattle.std.specs.Prelude.{ℕ, zero, suc, ◌+◌, ◌*◌, ◌%◌, pos, int_lt, Bool, true, false, not, ◌&&◌, ◌==◌, nat_lt, nat_le, is_none, Option, Some, None, Result, Ok, Err, List, [], ◌∷◌, map, get_or}
+use Rattle.std.specs.Prelude.{ℕ, zero, suc, ◌+◌, ◌*◌, ◌%◌, pos, int_lt, Bool, true, false, not, ◌&&◌, ◌==◌, nat_lt, nat_le, is_none, Option, Some, None, Result, Ok, Err, List, [], ◌∷◌, length, map, get_or}
 use Rattle.std.specs.List.{filter, list_all}
 use Rattle.image_defs.specs.Ask.{Ask, Done, look, check, given, each, ◌>>=◌, ◌>>◌}
 use Rattle.rx_tree.specs.Path.{joined_path}
@@ -74,9 +74,9 @@ is_first_root size superblock inode =
 abbrev pub is_first_name : List ℕ → Bool
 is_first_name name = list_all (λ byte. (nat_le 0x21 byte && nat_le byte 0x7E) && (not (byte == 0x2F) && not (byte == 0x5C))) name
 
--- an entry has such a name, and doesn't name the root
+-- an entry has such a name, of at most 255 bytes, and doesn't name the root
 unfoldable pub is_first_entry : Entry → Bool
-is_first_entry entry = is_first_name entry.name && nat_lt 2 entry.inode
+is_first_entry entry = is_first_name entry.name && (nat_le (length entry.name) 255 && nat_lt 2 entry.inode)
 
 -- an inode is that of a file of at most twelve blocks, all of which lie in the image
 unfoldable pub is_first_file : ℕ → Superblock → Inode → Bool

@@ -1,6 +1,6 @@
 -- A tree of an image of the first form is a tree: its files stand in order and are covered, its names are sorted, and
 -- all of it lies in the image.
-use Rattle.std.specs.Prelude.{◌≡◌, ℕ, ◌+◌, ◌≤◌, true, nat_le, Result, Ok, List, [], ◌∷◌, length}
+use Rattle.std.specs.Prelude.{◌≡◌, ℕ, ◌+◌, ◌≤◌, true, nat_le, Result, Ok, List, [], ◌∷◌, length, refl}
 use Rattle.std.specs.List.{All, list_all}
 use Rattle.std.proofs.Common.{sym, subst, arith}
 use Rattle.std.proofs.lemmas.Bool.{leb-true}
@@ -10,7 +10,7 @@ use Rattle.bytes_defs.specs.Bytes.{part}
 use Rattle.image_defs.specs.Ask.{Done, run, visits, each}
 use Rattle.range_defs.specs.RangeLaws.{longest_ranges_ends}
 use Rattle.image_defs.specs.Looks.{bind_gives, check_gives}
-use Rattle.rx_tree.specs.Order.{HaveRisingIds}
+use Rattle.rx_tree.specs.Order.{HaveRisingIds, AreInVolumes}
 use Rattle.rx_tree.specs.Within.{IsWithin, AreFilesWithin}
 use Rattle.rx_tree.specs.declared.file.FileEntry.{FileEntry}
 use Rattle.ufs_defs.specs.Superblock.{superblock_of}
@@ -19,7 +19,7 @@ use Rattle.ufs_defs.specs.declared.superblock.Superblock.{Superblock}
 use Rattle.ufs_defs.specs.declared.inode.Inode.{Inode}
 use Rattle.volume_defs.specs.EachRun.{each_first_gives}
 use Rattle.volume_defs.specs.FirstForm.{FirstFault, NotFirstForm, is_first_length, first_kind, is_first_superblock, is_first_inode, is_first_root, is_first_entry, is_first_file, first_superblock, first_inode, first_root, first_entries, first_file, files_below, first_files, named_inodes, root_file, named_file}
-use Rattle.volume_defs.specs.FoundFiles.{IsFileOf, AreFilesOf, IsWhole, first_files_within, first_files_rise, first_files_whole}
+use Rattle.volume_defs.specs.FoundFiles.{IsFileOf, AreFilesOf, IsWhole, first_files_within, first_files_rise, first_files_whole, first_files_in_volume}
 use Rattle.volume_defs.specs.FirstTree.{guard_of, tree_of, whole_volume}
 use Rattle.volume_defs.specs.FirstKept.{both_hold}
 
@@ -139,9 +139,16 @@ first_tree_rises image size files gives =
     let P : List FileEntry → Type 0 = λ list. HaveRisingIds list in
     subst P (sym found.whole) (first_files_rise size found.superblock found.root found.entries found.others found.good_entries found.good_files)
 
+-- each of them is in the volume
+pub first_tree_in_volume : (image : List ℕ) (size : ℕ) (files : List FileEntry) → run image (first_files size) ≡ Ok files → AreInVolumes (whole_volume size ∷ []) files
+first_tree_in_volume image size files gives =
+    let found = first_files_give image size files gives in
+    let P : List FileEntry → Type 0 = λ list. AreInVolumes (whole_volume size ∷ []) list in
+    subst P (sym found.whole) (first_files_in_volume size found.superblock found.root found.entries found.others (whole_volume size ∷ []) refl found.good_files)
+
 -- and are whole
 pub first_tree_whole : (image : List ℕ) (size : ℕ) (files : List FileEntry) → run image (first_files size) ≡ Ok files → All IsWhole files
 first_tree_whole image size files gives =
     let found = first_files_give image size files gives in
     let P : List FileEntry → Type 0 = λ list. All IsWhole list in
-    subst P (sym found.whole) (first_files_whole size found.superblock found.root found.entries found.others found.good_superblock found.good_files)
+    subst P (sym found.whole) (first_files_whole size found.superblock found.root found.entries found.others found.good_superblock found.good_entries found.good_files)

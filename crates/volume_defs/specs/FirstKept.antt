@@ -1,6 +1,6 @@
 -- What the tests of the first form make sure of: the blocks of the root and of the files lie in the image, and so does
 -- what is looked at.
-use Rattle.std.specs.Prelude.{◌≡◌, ℕ, zero, suc, ◌+◌, ◌*◌, ◌<◌, ◌≤◌, ◌%◌, Bool, true, false, cond, ◌&&◌, ◌==◌, nat_le, nat_lt, is_none, Option, Some, None, List, [], ◌∷◌, refl, map}
+use Rattle.std.specs.Prelude.{◌≡◌, ℕ, zero, suc, ◌+◌, ◌*◌, ◌<◌, ◌≤◌, ◌%◌, Bool, true, false, cond, ◌&&◌, ◌==◌, nat_le, nat_lt, is_none, Option, Some, None, List, [], ◌∷◌, refl, length, map}
 use Rattle.std.specs.List.{All, list_all}
 use Rattle.std.specs.List.Sorted.{IsStrictlySortedBy}
 use Rattle.std.specs.Ordering.{nat_cmp}
@@ -138,7 +138,7 @@ names_behind_root [] named = All-nil (λ number. nat_cmp 2 number ≡ Less)
 names_behind_root (entry ∷ entries) named =
     let both = both_hold (is_first_entry entry) (list_all is_first_entry entries) named in
     All-cons (λ number. nat_cmp 2 number ≡ Less) entry.inode (map (λ other. other.inode) entries)
-    (ap (λ behind. cond behind Less (cond (2 == entry.inode) Equal Greater)) (both_hold (is_first_name entry.name) (nat_lt 2 entry.inode) both.0).1)
+    (ap (λ behind. cond behind Less (cond (2 == entry.inode) Equal Greater)) (both_hold (nat_le (length entry.name) 255) (nat_lt 2 entry.inode) (both_hold (is_first_name entry.name) (nat_le (length entry.name) 255 && nat_lt 2 entry.inode) both.0).1).1)
     (names_behind_root entries both.1)
 
 pub named_inodes_rise : (entries : List Entry) → list_all is_first_entry entries ≡ true → IsStrictlySortedBy nat_cmp (2 ∷ named_inodes entries)

@@ -5,20 +5,21 @@ use Rattle.std.proofs.Common.{subst}
 use Rattle.image_defs.specs.Ask.{run}
 use Rattle.image_defs.specs.Runs.{with_value}
 use Rattle.rx_tree.specs.FoundTree.{FoundTree}
-use Rattle.rx_tree.specs.Order.{HaveRisingIds, HaveRisingNumbers}
+use Rattle.rx_tree.specs.Order.{HaveRisingIds, HaveRisingNumbers, AreInVolumes}
 use Rattle.rx_tree.specs.Within.{IsWithin}
 use Rattle.rx_tree.specs.declared.file.FileEntry.{FileEntry}
 use Rattle.volume_defs.specs.FirstForm.{FirstFault, first_files}
 use Rattle.volume_defs.specs.FirstTree.{guard_of, tree_of, first_tree}
 use Rattle.volume_defs.specs.FoundFiles.{IsWhole}
-use Rattle.volume_defs.specs.FirstInvariants.{first_tree_within, first_tree_rises, first_tree_whole}
+use Rattle.volume_defs.specs.FirstInvariants.{first_tree_within, first_tree_rises, first_tree_in_volume, first_tree_whole}
 
--- all that it says lies in its image; its volumes and its files stand in order; the names of each file are sorted, and
--- the pieces of each part cover it
+-- all that it says lies in its image; its volumes and its files stand in order, and each file is in one of the volumes;
+-- the names of each file are sorted paths, its parts stand in order, and the pieces of each part cover it
 pub record IsTree (tree : FoundTree) : Type 0 where
   pub within : IsWithin tree
   pub volumes : HaveRisingNumbers tree.volumes
   pub rising : HaveRisingIds tree.files
+  pub in_volumes : AreInVolumes tree.volumes tree.files
   pub whole : All IsWhole tree.files
 
 abbrev pub FirstTreeLaw : Type 0
@@ -33,6 +34,7 @@ tree_gives image tree (Ok files) is gives =
       within = first_tree_within image files is;
       volumes = (tt, tt);
       rising = first_tree_rises image (length image) files is;
+      in_volumes = first_tree_in_volume image (length image) files is;
       whole = first_tree_whole image (length image) files is;
     })
 tree_gives image tree (Err fault) is gives = absurd cc
