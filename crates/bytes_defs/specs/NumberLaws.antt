@@ -1,11 +1,10 @@
 -- What a number at a place is in a part of the bytes, and what a read of it with `byteorder` gives.
-use Rattle.std.specs.Prelude.{◌≡◌, length, ◌-◌, ℕ, zero, suc, ◌+◌, ◌^◌, ◌<◌, ◌≤◌, List, take, drop, slice_index, refl}
+use Rattle.std.specs.Prelude.{◌≡◌, length, ◌-◌, ℕ, zero, suc, ◌+◌, ◌≤◌, List, take, drop, slice_index, refl}
 use Rattle.std.proofs.Common.{ap, sym, ◌∙◌, arith}
 use Rattle.std.proofs.lemmas.List.{get_or-drop, get_or-take, length-drop}
 use Rattle.std.proofs.Math.Seq.{take-length}
 use Rattle.std.specs.Int.{Width, cast_signed}
 use Rattle.byteorder.specs.Endian.{little_from, big_from, little_number, big_number}
-use Rattle.byteorder.specs.Numbers.{little_from-lt, big_from-lt}
 use Rattle.bytes_defs.specs.Bytes.{part}
 use Rattle.bytes_defs.specs.Numbers.{with_byte, number_at, bytes_of_width, signed_at}
 use Rattle.bytes_defs.specs.declared.order.Order.{Order}
@@ -75,11 +74,6 @@ little_at_slice n bytes at = number_at_slice Little n bytes at ∙ little_at_fro
 
 pub big_at_slice : (n : ℕ) (bytes : List ℕ) (at : ℕ) → number_at Big n bytes at ≡ big_number n (take (length bytes - at) (drop at bytes))
 big_at_slice n bytes at = number_at_slice Big n bytes at ∙ big_at_from n (take (length bytes - at) (drop at bytes)) 0
-
--- a number of n bytes is below 256 to the n
-pub number_at_below : (order : Order) (n : ℕ) (bytes : List ℕ) (at : ℕ) → ((i : ℕ) → slice_index bytes i < 256) → number_at order n bytes at < 256 ^ n
-number_at_below Little n bytes at are_bytes = rw (little_at_from n bytes at) (little_from-lt at n bytes are_bytes)
-number_at_below Big n bytes at are_bytes = rw (big_at_from n bytes at) (big_from-lt at n bytes are_bytes)
 
 -- the laws by which a function that reads a field of a part that has no other bytes proves
 pub ruleset own_fields = (number_at_own, signed_at_own)

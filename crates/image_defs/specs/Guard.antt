@@ -23,11 +23,6 @@ pub looked_at-covers : {E X : Type 0} (image : List ℕ) (ask : Ask E X) (byte :
 unfolding looked_at
 looked_at-covers image ask byte inside = longest_ranges_covers (covers (visits image ask)) (length image) byte inside
 
--- they lie in the image
-pub looked_at-ends : {E X : Type 0} (image : List ℕ) (ask : Ask E X) → All (EndsBy (length image)) (looked_at image ask)
-unfolding looked_at
-looked_at-ends image ask = longest_ranges_ends (covers (visits image ask)) (length image)
-
 -- images that agree on these bytes agree on the ranges
 pub looked_at-agree : {E X : Type 0} (a b : List ℕ) (ask : Ask E X) → AgreeOn (looked_at a ask) a b → AgreeOn (visits a ask) a b
 looked_at-agree a b ask agree = record {

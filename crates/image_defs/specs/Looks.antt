@@ -108,13 +108,6 @@ pub each_gives : {E X Y : Type 0} (P : Y → Type 0) (image : List ℕ) (ask : X
     → ((x : X) (y : Y) → run image (ask x) ≡ Ok y → P y) → run image (each ask xs) ≡ Ok ys → All P ys
 each_gives P image ask xs ys holds gives = results_hold P (λ x. run image (ask x)) xs ys holds (sym (run_each image ask xs) ∙ gives)
 
--- the value for one item
-pub each_gives_one : {E X Y : Type 0} (image : List ℕ) (ask : X → Ask E Y) (x : X) (values : List Y) → run image (each ask (x ∷ [])) ≡ Ok values
-    → (y : Y) × (run image (ask x) ≡ Ok y) × (values ≡ y ∷ [])
-each_gives_one image ask x values gives =
-    let found = front_gives (run image (ask x)) (Ok []) values (sym (run_each image ask (x ∷ [])) ∙ gives) in
-    (found.0, found.2, found.4 ∙ ap (λ ys. found.0 ∷ ys) cc)
-
 same_fault : {E Y : Type 0} (f e : E) → (let one : Result Y E = Err f in let other : Result Y E = Err e in one ≡ other) → f ≡ e
 same_fault f e same = cc
 

@@ -3,7 +3,7 @@ use Rattle.std.specs.Prelude.{◌≡◌, ℕ, Bool, true, false, Result, Ok, Err
 use Rattle.std.proofs.Common.{ap, ◌∙◌}
 use Rattle.range_defs.specs.declared.Range.{Range}
 use Rattle.bytes_defs.specs.Bytes.{part}
-use Rattle.image_defs.specs.Ask.{Ask, Done, Stop, Look, run, visits, ◌>>=◌, look, check, given, each}
+use Rattle.image_defs.specs.Ask.{Ask, Done, Stop, Look, run, visits, ◌>>=◌, check, given, each}
 
 -- what the next program gives after a first result: a fault stays, and a value goes on
 abbrev pub run_next : {E X Y : Type 0} → List ℕ → Result X E → (X → Ask E Y) → Result Y E
@@ -45,22 +45,10 @@ visits_bind_quiet image (Look at len more) next quiet = ap (λ ranges. record { 
 pub visits_bind_ok : {E X Y : Type 0} (image : List ℕ) (ask : Ask E X) (next : X → Ask E Y) (x : X) → run image ask ≡ Ok x → visits image (ask >>= next) ≡ visits image ask ++ visits image (next x)
 visits_bind_ok image ask next x is = visits_bind image ask next ∙ ap (λ r. visits image ask ++ visits_next image r next) is
 
--- a look gives the bytes of its range
-pub run_look : {E : Type 0} (image : List ℕ) (at len : ℕ) → run image (look {E = E} at len) ≡ Ok (part image at len)
-run_look image at len = refl
-
--- a look looks at its range alone
-pub visits_look : (E : Type 0) (image : List ℕ) (at len : ℕ) → visits image (look {E = E} at len) ≡ record { at = at; len = len } ∷ []
-visits_look E image at len = refl
-
 -- a check gives its fault exactly where its test is false
 abbrev pub checked : {E : Type 0} → Bool → E → Result (Unit {0}) E
 checked true fault = Ok tt
 checked false fault = Err fault
-
-pub run_check : {E : Type 0} (image : List ℕ) (test : Bool) (fault : E) → run image (check test fault) ≡ checked test fault
-run_check image true fault = refl
-run_check image false fault = refl
 
 -- a check looks at nothing
 pub visits_check : {E : Type 0} (image : List ℕ) (test : Bool) (fault : E) → visits image (check test fault) ≡ []
@@ -93,17 +81,6 @@ pub visits_given : {E X : Type 0} (image : List ℕ) (result : Result X E) → v
 visits_given image (Ok x) = refl
 visits_given image (Err e) = refl
 
--- a program after a given value
-pub run_given_bind : {E X Y : Type 0} (image : List ℕ) (result : Result X E) (next : X → Ask E Y) → run image (given result >>= next) ≡ run_next image result next
-run_given_bind image (Ok x) next = refl
-run_given_bind image (Err e) next = refl
-
-pub run_given_ok : {E X Y : Type 0} (image : List ℕ) (result : Result X E) (next : X → Ask E Y) (x : X) → result ≡ Ok x → run image (given result >>= next) ≡ run image (next x)
-run_given_ok image result next x is = ap (λ r. run image (given r >>= next)) is
-
-pub run_given_err : {E X Y : Type 0} (image : List ℕ) (result : Result X E) (next : X → Ask E Y) (e : E) → result ≡ Err e → run image (given result >>= next) ≡ Err e
-run_given_err image result next e is = ap (λ r. run image (given r >>= next)) is
-
 -- a result whose value a function changes
 abbrev pub with_value : {E X Y : Type 0} → (X → Y) → Result X E → Result Y E
 with_value change (Ok x) = Ok (change x)
@@ -131,11 +108,6 @@ abbrev pub each_result : {E X Y : Type 0} → (X → Result Y E) → List X → 
 each_result give [] = Ok []
 each_result give (x ∷ xs) = in_front_of (give x) (each_result give xs)
 
--- the values of two lists of items in a row, or the first fault
-abbrev pub followed_by : {E Y : Type 0} → Result (List Y) E → Result (List Y) E → Result (List Y) E
-followed_by (Ok ys) rest = with_value (λ more. ys ++ more) rest
-followed_by (Err e) rest = Err e
-
 run_next_each : {E X Y : Type 0} (image : List ℕ) (ask : X → Ask E Y) (xs : List X) (first : Result Y E) → run_next image first (λ y. each ask xs >>= (λ ys. Done (y ∷ ys))) ≡ in_front_of first (run image (each ask xs))
 run_next_each image ask xs (Ok y) = run_bind_done image (each ask xs) (λ ys. y ∷ ys)
 run_next_each image ask xs (Err e) = refl
@@ -157,37 +129,3 @@ pub visits_each : {E X Y : Type 0} (image : List ℕ) (ask : X → Ask E Y) (x :
 visits_each image ask x xs =
     visits_bind image (ask x) (λ y. each ask xs >>= (λ ys. Done (y ∷ ys)))
     ∙ ap (λ rest. visits image (ask x) ++ rest) (visits_next_each image ask xs (run image (ask x)))
-
-with_value_twice : {E Y : Type 0} (y : Y) (first rest : Result (List Y) E) → in_front_of (Ok y) (followed_by first rest) ≡ followed_by (in_front_of (Ok y) first) rest
-with_value_twice y (Ok ys) (Ok more) = refl
-with_value_twice y (Ok ys) (Err e) = refl
-with_value_twice y (Err e) rest = refl
-
-in_front_of_followed_by : {E Y : Type 0} (first : Result Y E) (middle rest : Result (List Y) E) → in_front_of first (followed_by middle rest) ≡ followed_by (in_front_of first middle) rest
-in_front_of_followed_by (Ok y) middle rest = with_value_twice y middle rest
-in_front_of_followed_by (Err e) middle rest = refl
-
-followed_by_none : {E Y : Type 0} (rest : Result (List Y) E) → rest ≡ followed_by (Ok []) rest
-followed_by_none (Ok ys) = refl
-followed_by_none (Err e) = refl
-
--- the values for two lists of items in a row
-pub each_result_append : {E X Y : Type 0} (give : X → Result Y E) (xs more : List X) → each_result give (xs ++ more) ≡ followed_by (each_result give xs) (each_result give more)
-each_result_append give [] more = followed_by_none (each_result give more)
-each_result_append give (x ∷ xs) more =
-    ap (λ rest. in_front_of (give x) rest) (each_result_append give xs more)
-    ∙ in_front_of_followed_by (give x) (each_result give xs) (each_result give more)
-
--- one more item with a value
-pub each_result_push : {E X Y : Type 0} (give : X → Result Y E) (xs : List X) (x : X) (ys : List Y) (y : Y) → each_result give xs ≡ Ok ys → give x ≡ Ok y → each_result give (xs ++ x ∷ []) ≡ Ok (ys ++ y ∷ [])
-each_result_push give xs x ys y before is =
-    each_result_append give xs (x ∷ [])
-    ∙ ap (λ first. followed_by first (in_front_of (give x) (Ok []))) before
-    ∙ ap (λ last. followed_by (Ok ys) (in_front_of last (Ok []))) is
-
--- the first item with a fault stops, whatever items follow
-pub each_result_fault : {E X Y : Type 0} (give : X → Result Y E) (xs more : List X) (x : X) (ys : List Y) (e : E) → each_result give xs ≡ Ok ys → give x ≡ Err e → each_result give (xs ++ x ∷ more) ≡ Err e
-each_result_fault give xs more x ys e before is =
-    each_result_append give xs (x ∷ more)
-    ∙ ap (λ first. followed_by first (in_front_of (give x) (each_result give more))) before
-    ∙ ap (λ next. followed_by (Ok ys) (in_front_of next (each_result give more))) is

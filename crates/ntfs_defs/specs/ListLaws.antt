@@ -1,6 +1,6 @@
 -- How the runs of a run list follow one on another.
 use Rattle.std.specs.Prelude.{◌≡◌, ℕ, zero, suc, ◌+◌, ◌-◌, ◌<◌, ◌≤◌, Bool, true, false, ◌||◌, ◌==◌, nat_lt, nat_le, if◌then◌else◌, Option, Some, None, Result, Ok, Err, List, [], ◌∷◌, ◌++◌, length, slice_index, refl}
-use Rattle.std.proofs.Common.{ap, sym, ◌∙◌, arith, append_assoc, append-nil}
+use Rattle.std.proofs.Common.{ap, sym, ◌∙◌, subst, arith, append_assoc, append-nil}
 use Rattle.std.proofs.lemmas.Bool.{le-leb}
 use Rattle.std.proofs.lemmas.Bool.Decides.{nat_tests}
 use Rattle.ntfs_defs.specs.declared.runs.Run.{Run}
@@ -15,43 +15,24 @@ run_at-past : (bytes : List ℕ) (at : ℕ) → length bytes ≤ at → run_at b
 unfolding run_at
 run_at-past bytes at past = rw (le-leb (length bytes) at past) refl
 
--- the next header byte stands behind a run
-header_next : (ends long short : Bool) (at next : ℕ) (whole run : WrittenRun) → at < next → whole.next ≡ next
-    → (if ends then Ok None else (if long then Err (TooLong at) else (if short then Err (Short at) else Ok (Some whole)))) ≡ Ok (Some run)
-    → at < run.next
-header_next true long short at next whole run less is found = absurd (cc)
-header_next false true short at next whole run less is found = absurd (cc)
-header_next false false true at next whole run less is found = absurd (cc)
-header_next false false false at next whole run less is found =
-    let same : whole ≡ run = cc in
-    let place : run.next ≡ next = ap (λ run. run.next) (sym same) ∙ is in
-    omega arith
-
-behind_next : (past : Bool) (bytes : List ℕ) (at : ℕ) (run : WrittenRun)
-    → (if past then Err (Short at) else run_behind bytes at (slice_index bytes at)) ≡ Ok (Some run) → at < run.next
-unfolding run_behind run_with
-behind_next true bytes at run found = absurd (cc)
-behind_next false bytes at run found =
+-- a run begins at a byte, and the next header byte stands behind it
+pub run_at-place : (bytes : List ℕ) (at : ℕ) (run : WrittenRun) → run_at bytes at ≡ Ok (Some run) → (at < length bytes) × (at < run.next)
+unfolding run_at run_behind run_with
+run_at-place bytes at run found =
     let header = slice_index bytes at in
-    header_next (header == 0) (nat_lt 8 (length_bytes header) || nat_lt 8 (offset_bytes header))
-    (nat_lt (length bytes) (at + 1 + length_bytes header + offset_bytes header)) at
-    (at + 1 + length_bytes header + offset_bytes header) (run_with bytes at header) run (omega arith) refl found
-
-pub run_at-next : (bytes : List ℕ) (at : ℕ) (run : WrittenRun) → run_at bytes at ≡ Ok (Some run) → at < run.next
-unfolding run_at
-run_at-next bytes at run found = behind_next (nat_le (length bytes) at) bytes at run found
-
--- a run begins at a byte
-run_inside : (past : Bool) (bytes : List ℕ) (at : ℕ) (run : WrittenRun)
-    → (if past then Err (Short at) else run_behind bytes at (slice_index bytes at)) ≡ Ok (Some run) → past ≡ false
-run_inside true bytes at run found = absurd (cc)
-run_inside false bytes at run found = refl
-
-pub run_at-inside : (bytes : List ℕ) (at : ℕ) (run : WrittenRun) → run_at bytes at ≡ Ok (Some run) → at < length bytes
-unfolding run_at
-run_at-inside bytes at run found =
-    let inside = run_inside (nat_le (length bytes) at) bytes at run found in
-    grind (arith, nat_tests, inside)
+    cases (nat_le (length bytes) at) (header == 0) (nat_lt 8 (length_bytes header) || nat_lt 8 (offset_bytes header))
+    (nat_lt (length bytes) (at + 1 + length_bytes header + offset_bytes header)) refl found
+  where
+    cases : (past ends long short : Bool) → nat_le (length bytes) at ≡ past
+        → (if past then Err (Short at) else (if ends then Ok None else (if long then Err (TooLong at) else (if short then Err (Short at) else Ok (Some (run_with bytes at (slice_index bytes at))))))) ≡ Ok (Some run)
+        → (at < length bytes) × (at < run.next)
+    cases true ends long short is found = absurd (cc)
+    cases false true long short is found = absurd (cc)
+    cases false false true short is found = absurd (cc)
+    cases false false false true is found = absurd (cc)
+    cases false false false false is found =
+        let same : run_with bytes at (slice_index bytes at) ≡ run = cc in
+        (grind (arith, nat_tests, is), subst (λ run. at < run.next) same (omega arith))
 
 -- lists with the same behind a run are the same
 list_with-same : (first : Result (Option WrittenRun) RunFault) (behind other : ℕ → RunList)
@@ -74,8 +55,8 @@ list_within-enough (suc count) zero bytes at enough too = list_with-past bytes a
 list_within-enough (suc count) (suc other) bytes at enough too =
     list_with-same (run_at bytes at) (list_within count bytes) (list_within other bytes)
     (λ run found.
-    let more : at < run.next = run_at-next bytes at run found in
-    list_within-enough count other bytes run.next (omega arith) (omega arith))
+    let place = run_at-place bytes at run found in
+    list_within-enough count other bytes run.next (omega (arith, place.1)) (omega (arith, place.1)))
 
 list_from-count : (count : ℕ) (bytes : List ℕ) (at : ℕ) → count ≡ length bytes - at
     → list_within count bytes at ≡ list_with (run_at bytes at) (list_from bytes)
@@ -84,8 +65,8 @@ list_from-count zero bytes at is = sym (list_with-past bytes at (list_from bytes
 list_from-count (suc count) bytes at is =
     list_with-same (run_at bytes at) (list_within count bytes) (list_from bytes)
     (λ run found.
-    let more : at < run.next = run_at-next bytes at run found in
-    list_within-enough count (length bytes - run.next) bytes run.next (omega arith) (omega arith))
+    let place = run_at-place bytes at run found in
+    list_within-enough count (length bytes - run.next) bytes run.next (omega (arith, place.1)) (omega (arith, place.1)))
 
 -- the list from a place on is what begins there and the list behind it
 pub list_from-next : (bytes : List ℕ) (at : ℕ) → list_from bytes at ≡ list_with (run_at bytes at) (list_from bytes)

@@ -173,20 +173,6 @@ decoded_end clusters bytes runs found v =
     let ends = cluster_in-none runs v in
     (λ none. subst (λ sum. sum ≤ v) sum (ends.0 (same ∙ none)), λ past. sym same ∙ ends.1 (subst (λ sum. sum ≤ v) (sym sum) past))
 
--- they are at most so many, none of them is empty, and they lie on the volume
-pub decoded_at_most : (clusters : ℕ) (bytes : List ℕ) (runs : List Run) → decoded_runs clusters bytes ≡ Ok runs
-    → sum_by (λ run. run.len) runs ≤ 2 ^ 48
-decoded_at_most clusters bytes runs found =
-    let fits = (decoded_runs-ok clusters bytes runs found).at_most (omega arith) in
-    omega (arith, fits)
-
-pub decoded_none_empty : (clusters : ℕ) (bytes : List ℕ) (runs : List Run) → decoded_runs clusters bytes ≡ Ok runs → All (λ run. 0 < run.len) runs
-decoded_none_empty clusters bytes runs found = (decoded_runs-ok clusters bytes runs found).none_empty
-
-pub decoded_all_inside : (clusters : ℕ) (bytes : List ℕ) (runs : List Run) → decoded_runs clusters bytes ≡ Ok runs
-    → All (λ run. IfSome run.cluster (λ first. first + run.len ≤ clusters)) runs
-decoded_all_inside clusters bytes runs found = (decoded_runs-ok clusters bytes runs found).all_inside
-
 -- what they are stored in is a cluster of the volume
 run_inside : (clusters len v number : ℕ) (first : Option ℕ) → v < len → IfSome first (λ first. first + len ≤ clusters)
     → Some (cluster_in_run first v) ≡ Some (Stored number) → number < clusters
@@ -212,4 +198,4 @@ stored_inside clusters (run ∷ runs) v number inside is =
 pub decoded_stored_inside : (clusters : ℕ) (bytes : List ℕ) (runs : List Run) → decoded_runs clusters bytes ≡ Ok runs
     → (v number : ℕ) → cluster bytes v ≡ Some (Stored number) → number < clusters
 decoded_stored_inside clusters bytes runs found v number is =
-    stored_inside clusters runs v number (decoded_all_inside clusters bytes runs found) (decoded_clusters clusters bytes runs found v ∙ is)
+    stored_inside clusters runs v number (decoded_runs-ok clusters bytes runs found).all_inside (decoded_clusters clusters bytes runs found v ∙ is)

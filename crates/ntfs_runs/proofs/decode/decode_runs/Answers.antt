@@ -1,7 +1,7 @@
 use Rattle.std.proofs.Common.{Ok, arith, ap, sym, ◌∙◌}
 use Rattle.std.proofs.lemmas.Result.{err_from_is_err_and}
-use Rattle.ntfs_defs.specs.ListLaws.{run_at-next, run_at-inside, decoding_stops, decoding_refuses, decoding_ends}
-use Rattle.ntfs_defs.specs.RunLaws.{checked_run-ok, decoded_clusters, decoded_sum, decoded_end, decoded_at_most, decoded_none_empty, decoded_all_inside}
+use Rattle.ntfs_defs.specs.ListLaws.{run_at-place, decoding_stops, decoding_refuses, decoding_ends}
+use Rattle.ntfs_defs.specs.RunLaws.{checked_run-ok, decoded_clusters, decoded_sum, decoded_end, decoded_runs-ok}
 use Rattle.ntfs_runs.proofs.Walk.{walk_goes_on}
 use Rattle.ntfs_runs.proofs.decode.decode_runs.Goals as goal
 
@@ -31,7 +31,8 @@ overflow_add-total c =
 pub loop-runs-smaller : goal.loop-runs-smaller
 loop-runs-smaller c =
     let found = sym c.run_at.ensures ∙ c.in_ok-written.was ∙ ap Ok c.in-Some.is in
-    omega (arith, run_at-next c.args.bytes.now c.loop-runs.at c.in-Some.written found, run_at-inside c.args.bytes.now c.loop-runs.at c.in-Some.written found)
+    let place = run_at-place c.args.bytes.now c.loop-runs.at c.in-Some.written found in
+    omega (arith, place.0, place.1)
 
 pub loop-runs-preserved : goal.loop-runs-preserved
 loop-runs-preserved c =
@@ -55,10 +56,12 @@ pub returns-clause-end : goal.returns-clause-end
 returns-clause-end c = decoded_end c.args.clusters c.args.bytes.now c.from_vec.result (returns-clause-runs c)
 
 pub returns-clause-none_empty : goal.returns-clause-none_empty
-returns-clause-none_empty c = decoded_none_empty c.args.clusters c.args.bytes.now c.from_vec.result (returns-clause-runs c)
+returns-clause-none_empty c = (decoded_runs-ok c.args.clusters c.args.bytes.now c.from_vec.result (returns-clause-runs c)).none_empty
 
 pub returns-clause-all_inside : goal.returns-clause-all_inside
-returns-clause-all_inside c = decoded_all_inside c.args.clusters c.args.bytes.now c.from_vec.result (returns-clause-runs c)
+returns-clause-all_inside c = (decoded_runs-ok c.args.clusters c.args.bytes.now c.from_vec.result (returns-clause-runs c)).all_inside
 
 pub returns-clause-at_most : goal.returns-clause-at_most
-returns-clause-at_most c = decoded_at_most c.args.clusters c.args.bytes.now c.from_vec.result (returns-clause-runs c)
+returns-clause-at_most c =
+    let fits = (decoded_runs-ok c.args.clusters c.args.bytes.now c.from_vec.result (returns-clause-runs c)).at_most (omega arith) in
+    omega (arith, fits)
