@@ -1,5 +1,5 @@
 -- The numbers and the names that a reader gathers are those that the first form demands.
-use Rattle.std.proofs.Common.{◌≡◌, ℕ, zero, suc, ◌+◌, ◌<◌, Bool, true, false, nat_lt, List, [], ◌∷◌, ◌++◌, map, take, get_or, length, string_bytes, String, IsSorted, refl, sym, ap, subst, ◌∙◌, arith}
+use Rattle.std.proofs.Common.{◌≡◌, ℕ, zero, suc, ◌+◌, ◌<◌, Bool, true, false, ◌==◌, nat_le, nat_lt, ◌&&◌, if◌then◌else◌, List, [], ◌∷◌, ◌++◌, map, take, get_or, length, string_bytes, String, cond, IsSorted, refl, sym, ap, subst, ◌∙◌, arith}
 use Rattle.std.specs.List.{list_all}
 use Rattle.std.specs.List.Sorted.{IsPermutation}
 use Rattle.std.specs.Cmp.Lexicographic.{slice_cmp}
@@ -42,7 +42,7 @@ numbers_more entries index entry keys more inside is before inserted =
 pub entry_has_name : (entries : List Entry) (index : ℕ) (entry : Entry) → list_all is_first_entry entries ≡ true → index < length entries → entry ≡ get_or entries index entry → is_first_name entry.name ≡ true
 unfolding is_first_entry
 entry_has_name entries index entry all inside is =
-    (both_hold (is_first_name entry.name) (nat_lt 2 entry.inode) (named (is_first_entry (get_or entries index entry)) refl)).0
+    (both_hold (is_first_name entry.name) (nat_le (length entry.name) 255 && nat_lt 2 entry.inode) (named (is_first_entry (get_or entries index entry)) refl)).0
   where
     named : (good : Bool) → is_first_entry (get_or entries index entry) ≡ good → is_first_entry entry ≡ true
     named true holds = ap is_first_entry is ∙ holds

@@ -1,5 +1,5 @@
 -- What the tree of an image of the first form rests on.
-use Rattle.std.proofs.Common.{◌≡◌, ℕ, zero, suc, ◌+◌, ◌<◌, ◌≤◌, Bool, true, false, ◌&&◌, ◌==◌, not, nat_le, Result, Ok, Err, IfOk, List, [], ◌∷◌, refl, sym, ap, ◌∙◌, arith}
+use Rattle.std.proofs.Common.{◌≡◌, ℕ, zero, suc, ◌+◌, ◌<◌, ◌≤◌, Bool, true, false, ◌&&◌, ◌==◌, not, nat_le, Result, Ok, Err, IfOk, List, [], ◌∷◌, All, refl, sym, ap, subst, ◌∙◌, arith}
 use Rattle.std.specs.Str.{IsUtf8, IsAscii}
 use Rattle.std.proofs.lemmas.Bool.{leb-true}
 use Rattle.std.proofs.lemmas.Bool.Decides.{nat_tests}
@@ -8,11 +8,13 @@ use Rattle.std.proofs.lemmas.Str.{IsUtf8-from_ascii}
 use Rattle.range_defs.specs.declared.Range.{Range}
 use Rattle.range_defs.specs.Places.{covers, IsRangeList, longest_ranges}
 use Rattle.range_defs.specs.RangeLaws.{same_range_list, same_as_longest_ranges, ends_where_covered, covers-past}
+use Rattle.rx_ranges.specs.Path.{IsPath}
 use Rattle.rx_tree.specs.FoundTree.{FoundTree}
 use Rattle.rx_tree.specs.Within.{AreRangesWithin, AreFilesWithin, IsWithin}
 use Rattle.rx_tree.specs.declared.file.FileEntry.{FileEntry}
 use Rattle.rx_tree.specs.declared.volume.Volume.{Volume}
-use Rattle.volume_defs.specs.FirstForm.{is_first_name}
+use Rattle.volume_defs.specs.FirstForm.{is_first_name, root_path}
+use Rattle.volume_defs.specs.FoundFiles.{root_names_are_paths}
 use Rattle.volume_defs.specs.FirstTree.{whole_volume, tree_of}
 
 first_name-ascii : (name : List ℕ) → is_first_name name ≡ true → IsAscii name
@@ -31,6 +33,10 @@ first_name-ascii (byte ∷ bytes) first (suc i) = first_name-ascii bytes (rest_o
 -- a name of bytes that print is text
 pub first_name_is_utf8 : (name : List ℕ) → is_first_name name ≡ true → IsUtf8 name
 first_name_is_utf8 name first = IsUtf8-from_ascii name (first_name-ascii name first)
+
+-- the path of the root is a path
+pub root_name_is_path : (path : List ℕ) → path ≡ root_path → All IsPath (path ∷ [])
+root_name_is_path path is = let P : List ℕ → Type 0 = λ name. All IsPath (name ∷ []) in subst P (sym is) root_names_are_paths
 
 -- the kept list of the bytes of some ranges lies where they lie
 pub kept_within : (list ranges : List Range) (end : ℕ) → IsRangeList list → ((byte : ℕ) → covers list byte ≡ covers ranges byte) → AreRangesWithin end ranges → AreRangesWithin end list

@@ -127,7 +127,7 @@ fn slack_of(
 }
 
 /// The content of a file of at most twelve blocks.
-#[tactic(auto, using(volume_defs::specs::FirstKept::first_block_size, ufs_defs::specs::BlockLaws::content_pieces_cover, ufs_defs::specs::SlackLaws::content_is))]
+#[tactic(auto, using(volume_defs::specs::FirstKept::first_block_size, ufs_defs::specs::BlockLaws::content_pieces_cover, ufs_defs::specs::BlockLaws::content_pieces_plain, ufs_defs::specs::SlackLaws::content_is))]
 pub(crate) fn content_of(
     alloc: Global,
     size: u64,

@@ -108,7 +108,7 @@ fn may_be_name(name: &[u8]) -> bool
 fn may_be_named(entry: &Entry<'_>) -> bool
     ensures { result ≡ is_first_entry entry.now }
 {
-    may_be_name(entry.name) && 2 < entry.inode
+    may_be_name(entry.name) && entry.name.len() <= 255 && 2 < entry.inode
 }
 
 /// Whether all entries may stand there.

@@ -45,6 +45,7 @@ fn file_with(
 }
 
 /// The one name of the root.
+#[tactic(auto, using(crate::proofs::TreeParts::root_name_is_path))]
 fn root_names(alloc: Global) -> Result<Names, NoMemory>
     ensures { IfOk result (λ names. names ≡ root_path ∷ []) }
 {
