@@ -1,11 +1,8 @@
 -- The canonical list of the bytes that a program looks at.
-use Rattle.std.specs.Prelude.{◌≡◌, ℕ, zero, suc, ◌+◌, ◌<◌, ◌≤◌, Bool, true, false, ◌&&◌, ◌||◌, ◌==◌, if◌then◌else◌, List, [], ◌∷◌, length, refl}
+use Rattle.std.specs.Prelude.{◌≡◌, ℕ, ◌<◌, List, length}
 use Rattle.std.specs.List.{All}
 use Rattle.std.proofs.Common.{ap, sym, ◌∙◌, arith, ⊎_elim}
-use Rattle.std.proofs.Math.Bool.{or_assoc}
-use Rattle.std.proofs.lemmas.Bool.{cases_lt, cases_eq}
-use Rattle.std.proofs.lemmas.Bool.Decides.{nat_tests}
-use Rattle.std.proofs.lemmas.List.Elements.{All-head, All-tail, All-cons, All-nil}
+use Rattle.std.proofs.lemmas.Bool.{cases_lt}
 use Rattle.std.proofs.lemmas.Option.{slice_get_past}
 use Rattle.range_defs.specs.declared.Range.{Range}
 use Rattle.range_defs.specs.Places.{covers, IsRangeList, longest_ranges}

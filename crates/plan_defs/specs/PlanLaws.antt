@@ -8,6 +8,7 @@ use Rattle.std.proofs.lemmas.Bool.{cond_both, and_right}
 use Rattle.std.proofs.lemmas.Bool.Decides.{nat_tests}
 use Rattle.range_defs.specs.declared.Range.{Range}
 use Rattle.range_defs.specs.declared.Claim.{Claim}
+use Rattle.range_defs.specs.declared.TheConstants.{LONGEST_IMAGE, REACH}
 use Rattle.range_defs.specs.Places.{covers, IsLeast, least_below, EndsInReach}
 use Rattle.range_defs.specs.RangeLaws.{EndsBy as RangeEndsBy, covers-past}
 use Rattle.range_defs.specs.LeastLaws.{same_as_least_below}
@@ -169,7 +170,7 @@ touches-by_least len file planned touched answer within same least =
     ∙ ap (λ (touched_set : ℕ → Bool). is_some (least_below (λ byte. covers planned byte && touched_set byte) len)) (fun_ext same)
 
 -- claims that end where an image does end in reach
-pub claims-in_reach : (end : ℕ) (claims : List Claim) → end ≤ 70368744177664 → All (EndsBy end) claims
+pub claims-in_reach : (end : ℕ) (claims : List Claim) → end ≤ LONGEST_IMAGE → All (EndsBy end) claims
     → All (λ claim. EndsInReach claim.range) claims
 claims-in_reach end claims reach within =
     All-weaker (EndsBy end) (λ claim. EndsInReach claim.range) (λ claim less. omega (arith, less)) claims within

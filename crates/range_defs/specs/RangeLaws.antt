@@ -1,13 +1,13 @@
 -- Laws on sets of places. Ranges are claims of one paint, so the canonical list of a set is the one list of the longest
 -- ranges, and the only one.
-use Rattle.std.proofs.Common.{◌≡◌, ℕ, zero, suc, ◌+◌, ◌<◌, ◌≤◌, Bool, true, false, ◌&&◌, ◌||◌, cond, Option, Some, None, is_some, List, [], ◌∷◌, map, refl, sym, ◌∙◌, ap, subst, arith}
+use Rattle.std.proofs.Common.{◌≡◌, ℕ, zero, suc, ◌+◌, ◌<◌, ◌≤◌, Bool, true, false, ◌||◌, cond, Option, Some, None, is_some, List, [], ◌∷◌, map, refl, sym, ◌∙◌, ap, subst, arith}
 use Rattle.std.specs.List.{All}
 use Rattle.std.proofs.lemmas.List.Elements.{All-head, All-tail, All-map, All-same}
 use Rattle.std.proofs.lemmas.Bool.{cond_both}
 use Rattle.std.proofs.lemmas.Bool.Decides.{nat_tests}
 use Rattle.range_defs.specs.declared.Range.{Range}
 use Rattle.range_defs.specs.declared.Claim.{Claim}
-use Rattle.range_defs.specs.Places.{in_range, covers, BeginsBehind, IsRangeList, in_front, longest_ranges}
+use Rattle.range_defs.specs.Places.{in_range, covers, IsRangeList, in_front, longest_ranges}
 use Rattle.range_defs.specs.Claims.{painted, lesser_paint, BeginsApart, IsFillMap, ranges_of, longest_claims}
 use Rattle.range_defs.specs.Claims as claims
 use Rattle.range_defs.specs.ClaimLaws as laws

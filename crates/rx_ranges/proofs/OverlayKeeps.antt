@@ -5,6 +5,7 @@ use Rattle.std.proofs.lemmas.List.{append-nil}
 use Rattle.std.proofs.lemmas.List.Elements.{All-nil, All-cons, All-head, All-tail, All-append, All-same}
 use Rattle.std.proofs.lemmas.Bool.{cases_lt, le-leb, lt-leb}
 use Rattle.range_defs.specs.declared.Claim.{Claim}
+use Rattle.range_defs.specs.declared.TheConstants.{REACH}
 use Rattle.range_defs.specs.Places.{EndsInReach}
 use Rattle.rx_ranges.specs.Laying.{AreApart, HasFill, part_of, shared_part, laid_on, unless_empty}
 use Rattle.rx_ranges.proofs.Paints.{kept-unless, none-unless}
@@ -113,7 +114,7 @@ all-on P next claim first second third last =
     (all-unless P (shared_part next claim) third))
     (all-unless P (part_of next (claim.range.at + claim.range.len) (next.range.at + next.range.len)) last)
 
-pub part-reach : (claim : Claim) (from to : ℕ) → from ≤ 9223372036854775808 → EndsInReach claim.range → EndsInReach (part_of claim from to).range
+pub part-reach : (claim : Claim) (from to : ℕ) → from ≤ REACH → EndsInReach claim.range → EndsInReach (part_of claim from to).range
 unfolding part_of
 part-reach claim from to low reach = omega arith
 

@@ -1,4 +1,4 @@
-use Rattle.std.proofs.Common.{◌≡◌, arith, ap, ◌∙◌, sym}
+use Rattle.std.proofs.Common.{◌≡◌, arith, ap, ◌∙◌}
 use Rattle.range_defs.specs.Places.{EndsInReach}
 use Rattle.std.proofs.lemmas.List.Elements.{All-same}
 use Rattle.rx_ranges.proofs.Merging.{merged_to, covers-all, kept-merged, reach-merged, rise, so_far-joins, so_far-apart, so_far-done}

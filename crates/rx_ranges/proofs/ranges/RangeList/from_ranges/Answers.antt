@@ -1,5 +1,4 @@
 use Rattle.std.proofs.Common.{◌∙◌, ap, rules}
-use Rattle.std.specs.List.Sorted.{IsNonDecreasingBy}
 use Rattle.std.proofs.lemmas.List.Elements.{All-same}
 use Rattle.std.proofs.lemmas.List.Sorted.{All-permutation, IsNonDecreasingBy-from_sort_by_key}
 use Rattle.range_defs.specs.Places.{covers, EndsInReach}
