@@ -1,11 +1,10 @@
 -- The command `plan`: what each status says of the rule text and the image, and of what was written.
-use Rattle.std.specs.Prelude.{◌≡◌, ℕ, Option, Some, None, Ok, List}
-use Rattle.std.specs.Option.{option_map}
+use Rattle.std.specs.Prelude.{◌≡◌, ℕ, Some, None, Ok, List}
 use Rattle.rule_defs.specs.declared.Rule.{Rule}
 use Rattle.rule_defs.specs.Reads.{Reads}
 use Rattle.rx_tree.specs.FoundTree.{FoundTree}
 use Rattle.volume_defs.specs.FirstTree.{first_tree}
-use Rattle.plan_defs.specs.Plan.{plan_of, planned_at, guarded_byte}
+use Rattle.plan_defs.specs.Plan.{plan_of, guarded_byte, planning_rule}
 use Rattle.text_defs.specs.Report.{report}
 use Rattle.text_defs.specs.declared.ReportState.TheVariants.{Planned}
 use Rattle.cmd_defs.specs.declared.status.Status.{Status}
@@ -25,10 +24,6 @@ SaysRules text = (rules : List Rule) × Reads text rules
 -- the text or the image has another form
 abbrev pub HasNoForm : List ℕ → List ℕ → Type 0
 HasNoForm text image = (rules : List Rule) (tree : FoundTree) → ¬ (MeetsForms text image rules tree)
-
--- the number of the rule by which a byte is planned
-abbrev pub planning_rule : List Rule → FoundTree → ℕ → Option ℕ
-planning_rule rules tree byte = option_map (λ paint. paint.0) (planned_at rules tree.files byte)
 
 -- this byte is the least of the guard that the plan fills, and this is its rule
 abbrev pub FillsGuard : ℕ → ℕ → List ℕ → List ℕ → Type 0

@@ -1,9 +1,6 @@
 //! What a command answers.
 ghost use Rattle.std.specs.Prelude.{◌≡◌};
 ghost use Rattle.cmd_defs.specs.Status.{code_of};
-ghost use Rattle.cmd_defs.specs.declared.status.Status.TheVariants.{NoMemory};
-
-use std::alloc::{AllocError, AllocFailed};
 
 /// Why a plan is refused.
 #[derive(Clone, Copy, Debug, PartialEq, Eq)]
@@ -48,21 +45,5 @@ impl Status {
             Status::NoMemory => 14,
             Status::NotBuilt => 15,
         }
-    }
-}
-
-impl From<AllocError> for Status {
-    ghost from_gives = { λ _ status. status ≡ NoMemory };
-
-    fn from(_error: AllocError) -> Status {
-        Status::NoMemory
-    }
-}
-
-impl<T: Drop> From<AllocFailed<T>> for Status {
-    ghost from_gives = { λ _ status. status ≡ NoMemory };
-
-    fn from(_error: AllocFailed<T>) -> Status {
-        Status::NoMemory
     }
 }

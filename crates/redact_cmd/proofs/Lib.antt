@@ -1,3 +1,2 @@
 pub mod Lines
-pub mod Plans
-pub mod Guarded
+pub mod Says

@@ -2,8 +2,7 @@
 #![tactic(auto)]
 
 mod commands;
-mod plan;
-mod rules;
+mod plan_command;
 mod status;
 mod words;
 

@@ -1,15 +1,28 @@
 //! What a command answers.
 ghost use Rattle.std.specs.Prelude.{◌≡◌, ◌≤◌, length, OnOk, OnErr};
-ghost use Rattle.disk_defs.specs.Count.{Rose};
+ghost use Rattle.disk_defs.specs.Count.{IsCounted};
 ghost use Rattle.disk_defs.specs.Stream.{taken_with, TookPrefixOf};
-ghost use Rattle.redact_cmd.specs.Reading.{status_of_reading};
+ghost use Rattle.redact_cmd.specs.Stages.{status_of_rules, status_of_reading, status_of_planning};
 ghost use Rattle.cmd_defs.specs.Status.{status_line, refusal_line, plain_text};
 
 use arrayvec::ArrayString;
 use cmd_defs::{PlanRefusal, Status};
 use first_reader::FirstReadFault;
 use itoa::Buffer;
+use rule_parse::RuleFault;
+use rx_plan::PlanFault;
 use rx_store::{Fault, Sink, write_all};
+
+/// The status of a fault of reading the rules.
+pub(crate) fn status_of_rules(fault: RuleFault) -> Status
+    ensures { result ≡ status_of_rules fault }
+{
+    match fault {
+        RuleFault::OtherForm => Status::NotBuilt,
+        RuleFault::Source => Status::SourceFault,
+        RuleFault::NoMemory => Status::NoMemory,
+    }
+}
 
 /// The status of a fault of reading the image.
 pub(crate) fn status_of_reading(fault: FirstReadFault) -> Status
@@ -22,12 +35,21 @@ pub(crate) fn status_of_reading(fault: FirstReadFault) -> Status
     }
 }
 
+/// The status of a refusal of the plan.
+pub(crate) fn status_of_planning(fault: PlanFault) -> Status
+    ensures { result ≡ status_of_planning fault }
+{
+    match fault {
+        PlanFault::MeetsGuard { at, rule } => Status::PlanRefused(PlanRefusal::MeetsGuard(at, rule)),
+        PlanFault::NoMemory => Status::NoMemory,
+    }
+}
+
 /// Writes the line that says a status. After a fault the sink took some first bytes of it.
 pub fn write_status<K: Sink>(status: &Status, sink: &mut K) -> Result<(), Fault>
     ensures taken { OnOk result (K.taken sink.new ≡ taken_with (K.taken sink.old) (status_line status.now)) }
     ensures prefix { OnErr result (TookPrefixOf (K.taken sink.old) (K.taken sink.new) (status_line status.now)) }
-    ensures counts { K.faults sink.old ≤ K.faults sink.new }
-    ensures cause { OnErr result (Rose (K.faults sink.old) (K.faults sink.new)) }
+    ensures counted { IsCounted result (K.faults sink.old) (K.faults sink.new) }
 {
     write_all(sink, line_of(status).as_bytes())
 }

@@ -1,0 +1,63 @@
+-- What a status of `plan` says where a stage gave it.
+use Rattle.std.proofs.Common.{◌≡◌, refl, sym, subst, ℕ, Option, Some, None, IfSome, Ok, List}
+use Rattle.rule_defs.specs.declared.Rule.{Rule}
+use Rattle.rule_defs.specs.Reads.{Reads, SaysNoRules}
+use Rattle.rx_tree.specs.FoundTree.{FoundTree}
+use Rattle.volume_defs.specs.FirstTree.{first_tree}
+use Rattle.plan_defs.specs.Plan.{plan_of, guarded_byte, planning_rule}
+use Rattle.text_defs.specs.Report.{report}
+use Rattle.text_defs.specs.declared.ReportState.TheVariants.{Planned}
+use Rattle.cmd_defs.specs.declared.status.Status.{Status}
+use Rattle.cmd_defs.specs.Outcome.{IfBothTold}
+use Rattle.cmd_defs.specs.PlanCommand.{PlanSays, HasReport}
+use Rattle.rule_parse.specs.declared.RuleFault.{RuleFault}
+use Rattle.rule_parse.specs.declared.RuleFault.TheVariants as rules
+use Rattle.rx_plan.specs.declared.PlanFault.{PlanFault}
+use Rattle.rx_plan.specs.declared.PlanFault.TheVariants as plan
+use Rattle.redact_cmd.specs.Stages.{status_of_rules, status_of_planning}
+
+-- a fact of the status that a stage gave
+told_of : (text image : Option (List ℕ)) (W P : List ℕ → Type 0) (status given : Status) → status ≡ given
+    → IfBothTold text image (λ t i. PlanSays given t i W P) → IfBothTold text image (λ t i. PlanSays status t i W P)
+told_of text image W P status given is says = subst (λ s. IfBothTold text image (λ t i. PlanSays s t i W P)) (sym is) says
+
+rules_say : (text image : Option (List ℕ)) (W P : List ℕ → Type 0) (fault : RuleFault) → (fault ≡ rules.OtherForm → IfSome text SaysNoRules)
+    → IfBothTold text image (λ t i. PlanSays (status_of_rules fault) t i W P)
+rules_say None image W P fault other = tt
+rules_say (Some t) None W P fault other = tt
+rules_say (Some t) (Some i) W P rules.OtherForm other = λ found tree forms. other refl found forms.reads
+rules_say (Some t) (Some i) W P rules.Source other = tt
+rules_say (Some t) (Some i) W P rules.NoMemory other = tt
+
+-- where the rules were not read
+pub rules_refused : (text image : Option (List ℕ)) (W P : List ℕ → Type 0) (fault : RuleFault) (status : Status) → status ≡ status_of_rules fault
+    → (fault ≡ rules.OtherForm → IfSome text SaysNoRules) → IfBothTold text image (λ t i. PlanSays status t i W P)
+rules_refused text image W P fault status is other = told_of text image W P status (status_of_rules fault) is (rules_say text image W P fault other)
+
+plan_says : (text image : Option (List ℕ)) (W P : List ℕ → Type 0) (rules : List Rule) (tree : FoundTree) (fault : PlanFault)
+    → IfSome text (λ t. Reads t rules) → IfSome image (λ i. first_tree i ≡ Ok tree)
+    → ((at rule : ℕ) → fault ≡ plan.MeetsGuard at rule → (guarded_byte tree rules ≡ Some at) × (planning_rule rules tree at ≡ Some rule))
+    → IfBothTold text image (λ t i. PlanSays (status_of_planning fault) t i W P)
+plan_says None image W P rules tree fault reads tree_is guarded = tt
+plan_says (Some t) None W P rules tree fault reads tree_is guarded = tt
+plan_says (Some t) (Some i) W P rules tree (plan.MeetsGuard at rule) reads tree_is guarded =
+    let meets = guarded at rule refl in
+    (rules, tree, record { reads = reads; tree_is = tree_is }, meets.0, meets.1)
+plan_says (Some t) (Some i) W P rules tree plan.NoMemory reads tree_is guarded = tt
+
+-- where the plan was not made
+pub plan_refused : (text image : Option (List ℕ)) (W P : List ℕ → Type 0) (rules : List Rule) (tree : FoundTree) (fault : PlanFault) (status : Status)
+    → status ≡ status_of_planning fault → IfSome text (λ t. Reads t rules) → IfSome image (λ i. first_tree i ≡ Ok tree)
+    → ((at rule : ℕ) → fault ≡ plan.MeetsGuard at rule → (guarded_byte tree rules ≡ Some at) × (planning_rule rules tree at ≡ Some rule))
+    → IfBothTold text image (λ t i. PlanSays status t i W P)
+plan_refused text image W P rules tree fault status is reads tree_is guarded =
+    told_of text image W P status (status_of_planning fault) is (plan_says text image W P rules tree fault reads tree_is guarded)
+
+-- where the report was written, or some first bytes of it
+pub reported : (text image : Option (List ℕ)) (W : List ℕ → Type 0) (rules : List Rule) (tree : FoundTree) → IfSome text (λ t. Reads t rules)
+    → IfSome image (λ i. first_tree i ≡ Ok tree) → guarded_byte tree rules ≡ None → W (report (plan_of tree rules) Planned)
+    → IfBothTold text image (λ t i. HasReport t i W)
+reported None image W rules tree reads tree_is unguarded wrote = tt
+reported (Some t) None W rules tree reads tree_is unguarded wrote = tt
+reported (Some t) (Some i) W rules tree reads tree_is unguarded wrote =
+    (rules, tree, record { reads = reads; tree_is = tree_is }, unguarded, wrote)
