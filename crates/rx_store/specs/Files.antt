@@ -1,10 +1,11 @@
 -- A store over files: what contracts see of it.
-use Rattle.std.specs.Prelude.{◌≡◌, ℕ, min, Bool, true, false, None, IsTrue}
+use Rattle.std.specs.Prelude.{◌≡◌, ℕ, min, Bool, true, false, Option, None, Some, is_none, IsTrue}
 use Rattle.std.proofs.Common.{arith}
 use Rattle.disk_defs.specs.Count.{Faults}
 use Rattle.disk_defs.specs.Disk.{State, SizesFit, TellsItsSizes}
 use Rattle.disk_defs.specs.declared.Area.{Area}
 use Rattle.disk_defs.specs.declared.Area.TheVariants.{Image, Journal}
+use Rattle.rx_store.specs.Outside.{Calls}
 use Rattle.rx_store.specs.declared.file_store.Opened.{Opened}
 use Rattle.rx_store.specs.declared.file_store.Opened.TheVariants.{Absent, Failed, Open}
 
@@ -20,24 +21,20 @@ pub record StoreOfFiles : Type 0 where
   pub journal : AreaFile
   pub faults : Faults
 
-abbrev pub is_absent : Opened → Bool
-is_absent Absent = true
-is_absent Failed = false
-is_absent (Open file) = false
+-- what is seen of an area over this file, with the size that was found, or of one that isn't there
+abbrev pub area_file : {D : Type 0} → Option (Calls D) → ℕ → AreaFile
+area_file None size = record { size = size; is_absent = true; has_failed = false }
+area_file (Some calls) size = record { size = size; is_absent = false; has_failed = is_none calls.device }
 
-abbrev pub has_failed : Opened → Bool
-has_failed Absent = false
-has_failed Failed = true
-has_failed (Open file) = false
-
--- what is seen of a file with the size that was found
-abbrev pub area_file : Opened → ℕ → AreaFile
-area_file opened size = record { size = size; is_absent = is_absent opened; has_failed = has_failed opened }
+-- how many calls on the file of an area failed
+abbrev pub faults_on : {D : Type 0} → Option (Calls D) → ℕ
+faults_on None = 0
+faults_on (Some calls) = calls.faults
 
 -- what is found of a file when it is measured: an open one may fail then
 abbrev pub IsMeasured : Opened → AreaFile → Type 0
-IsMeasured Absent file = file ≡ area_file Absent 0
-IsMeasured Failed file = file ≡ area_file Failed 0
+IsMeasured Absent file = file ≡ record { size = 0; is_absent = true; has_failed = false }
+IsMeasured Failed file = file ≡ record { size = 0; is_absent = false; has_failed = true }
 IsMeasured (Open opened) file = (file.is_absent ≡ false) × (IsTrue file.has_failed → file.size ≡ 0)
 
 abbrev pub file_of : Area → StoreOfFiles → AreaFile

@@ -1,5 +1,6 @@
 pub mod Answers
 pub mod Files
+pub mod Outside
 pub mod ReadFaults
 pub mod Readers
 pub mod Vecs

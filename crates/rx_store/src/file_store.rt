@@ -1,11 +1,10 @@
 //! The store over real files.
-ghost use Rattle.std.specs.Prelude.{◌≡◌, ◌≤◌, ◌+◌, length, IfOk, OnOk, OnErr, IsOk, IsErr, IsTrue};
+ghost use Rattle.std.specs.Prelude.{◌≡◌, ◌<◌, ◌≤◌, ◌+◌, ◌^◌, length, IfOk, OnOk, OnErr, IsOk, IsErr, IsTrue, is_none};
 ghost use Rattle.disk_defs.specs.Disk.{size_of, ReadsFrom};
-ghost use Rattle.disk_defs.specs.Count.{IsCountedIn, no_faults};
-ghost use Rattle.rx_store.specs.Files.{IsMeasured, area_file, is_absent, has_failed, file_of, state_of_files};
+ghost use Rattle.disk_defs.specs.Count.{IsCounted, IsCountedIn, no_faults};
+ghost use Rattle.rx_store.specs.Files.{IsMeasured, area_file, faults_on, file_of, state_of_files};
 
-use crate::fault_counts::FaultCounts;
-use crate::outside::read_once;
+use crate::outside::{Outcome, Outside, ReadsFrom};
 use crate::store::Store;
 use disk_defs::{Area, Fault};
 use std::fs::File;
@@ -32,69 +31,79 @@ fn measure(file: &mut File) -> io::Result<u64> {
 }
 
 /// Reads the whole buffer from a place of a file on. A file that ends before is a fault.
-fn read_whole(file: &mut File, at: u64, buf: &mut [u8]) -> Result<(), Fault> {
-    if file.seek(SeekFrom::Start(at)).is_err() {
-        return Err(Fault);
-    }
+fn read_whole<F: ReadsFrom>(file: &mut Outside<F>, at: u64, buf: &mut [u8]) -> Result<(), Fault>
+    requires { at + length buf.old < 2 ^ 64 }
+    ensures same { is_none file.new.device ≡ is_none file.old.device }
+    ensures counted { IsCounted result file.old.faults file.new.faults }
+{
     let mut done = 0;
     while done < buf.len() {
-        let count = read_once(file, &mut buf[done..])?;
-        if count == 0 {
-            return Err(Fault);
+        match file.read_from(at + done as u64, &mut buf[done..]) {
+            Outcome::Bytes(count) => done += count,
+            Outcome::Again => {}
+            Outcome::Failed => return Err(Fault),
         }
-        done += count;
     }
     Ok(())
 }
 
-/// An area over a file, with the size that it had at first.
+/// An area over a file, with the size that it had at first, or an area that isn't there.
 #[derive(Drop)]
 struct FileArea {
-    opened: Opened,
+    file: Option<Outside<File>>,
     size: u64,
 }
 
 impl FileArea {
     /// Measures a file. One that can't be measured is as one that couldn't be opened.
     fn new(opened: Opened) -> FileArea
-        ensures { IsMeasured opened (area_file result.opened result.size) }
+        ensures measured { IsMeasured opened (area_file result.file result.size) }
+        ensures faults { faults_on result.file ≡ 0 }
     {
-        match opened {
-            Opened::Open(mut file) => match measure(&mut file) {
-                Ok(size) => FileArea {
-                    opened: Opened::Open(file),
-                    size,
-                },
-                Err(_) => FileArea {
-                    opened: Opened::Failed,
-                    size: 0,
-                },
+        let (file, size) = match opened {
+            Opened::Absent => return FileArea {
+                file: None,
+                size: 0,
             },
-            opened => FileArea { opened, size: 0 },
+            Opened::Failed => (None, 0),
+            Opened::Open(mut file) => match measure(&mut file) {
+                Ok(size) => (Some(file), size),
+                Err(_) => (None, 0),
+            },
+        };
+        FileArea {
+            file: Some(Outside::new(file)),
+            size,
         }
     }
 
-    fn len(&self) -> Result<u64, Fault>
-        ensures size { IfOk result (λ size. size ≡ self.now.size) }
-        ensures failed { IsTrue (has_failed self.now.opened) → IsErr result }
-        ensures only_failed { OnErr result (IsTrue (has_failed self.now.opened)) }
+    fn len(&mut self) -> Result<u64, Fault>
+        ensures size { IfOk result (λ size. size ≡ self.old.size) }
+        ensures same { area_file self.new.file self.new.size ≡ area_file self.old.file self.old.size }
+        ensures counted { IsCounted result (faults_on self.old.file) (faults_on self.new.file) }
+        ensures failed { IsTrue (area_file self.old.file self.old.size).has_failed → IsErr result }
+        ensures only_failed { OnErr result (IsTrue (area_file self.old.file self.old.size).has_failed) }
     {
-        match &self.opened {
-            Opened::Failed => Err(Fault),
-            _ => Ok(self.size),
+        if let Some(file) = &mut self.file {
+            file.open()?;
         }
+        Ok(self.size)
     }
 
     /// Of an area that isn't there only nothing can be asked.
     fn read_at(&mut self, at: u64, buf: &mut [u8]) -> Result<(), Fault>
-        ensures same { area_file self.new.opened self.new.size ≡ area_file self.old.opened self.old.size }
-        ensures failed { IsTrue (has_failed self.old.opened) → IsErr result }
-        ensures absent { IsTrue (is_absent self.old.opened) → IsOk result }
+        requires { at + length buf.old < 2 ^ 64 }
+        ensures same { area_file self.new.file self.new.size ≡ area_file self.old.file self.old.size }
+        ensures counted { IsCounted result (faults_on self.old.file) (faults_on self.new.file) }
+        ensures failed { IsTrue (area_file self.old.file self.old.size).has_failed → IsErr result }
+        ensures absent { IsTrue (area_file self.old.file self.old.size).is_absent → IsOk result }
     {
-        match &mut self.opened {
-            Opened::Absent => Ok(()),
-            Opened::Failed => Err(Fault),
-            Opened::Open(file) => read_whole(file, at, buf),
+        match &mut self.file {
+            None => Ok(()),
+            Some(file) => {
+                file.open()?;
+                read_whole(file, at, buf)
+            }
         }
     }
 }
@@ -105,18 +114,17 @@ impl FileArea {
 pub struct FileStore {
     image: FileArea,
     journal: FileArea,
-    faults: FaultCounts,
 }
 
 impl Model for FileStore {
-    ghost use Rattle.rx_store.specs.Files.{StoreOfFiles, area_file};
+    ghost use Rattle.rx_store.specs.Files.{StoreOfFiles, area_file, faults_on};
 
     ghost Value = { StoreOfFiles };
 
     ghost view = { λ store. record {
-      image = area_file store.image.opened store.image.size;
-      journal = area_file store.journal.opened store.journal.size;
-      faults = store.faults;
+      image = area_file store.image.file store.image.size;
+      journal = area_file store.journal.file store.journal.size;
+      faults = record { image = faults_on store.image.file; journal = faults_on store.journal.file };
     } };
 }
 
@@ -130,7 +138,6 @@ impl FileStore {
         FileStore {
             image: FileArea::new(image),
             journal: FileArea::new(journal),
-            faults: FaultCounts::new(),
         }
     }
 }
@@ -152,11 +159,10 @@ impl Store for FileStore {
         ensures only_failed { OnErr result (IsTrue (file_of area self.old).has_failed) }
         ensures files { self.new ≡ record self.old { faults = self.new.faults } }
     {
-        let outcome = match area {
+        match area {
             Area::Image => self.image.len(),
             Area::Journal => self.journal.len(),
-        };
-        self.faults.counted(area, outcome)
+        }
     }
 
     fn read_at(&mut self, area: Area, at: u64, buf: &mut [u8]) -> Result<(), Fault>
@@ -170,11 +176,10 @@ impl Store for FileStore {
         ensures absent { IsTrue (file_of area self.old).is_absent → IsOk result }
         ensures files { self.new ≡ record self.old { faults = self.new.faults } }
     {
-        let outcome = match area {
+        match area {
             Area::Image => self.image.read_at(at, buf),
             Area::Journal => self.journal.read_at(at, buf),
-        };
-        self.faults.counted(area, outcome)
+        }
     }
 
     ghost tells_its_sizes = { tells_its_sizes_of_files };

@@ -1,7 +1,8 @@
 //! A sink over a writer of std.
-ghost use Rattle.std.specs.Prelude.{◌≡◌};
+ghost use Rattle.std.specs.Prelude.{◌≡◌, ◌<◌, ◌≤◌, length, IfOk};
+ghost use Rattle.disk_defs.specs.Count.{IsCounted};
 
-use crate::outside::{counted, write_once};
+use crate::outside::{Outcome, Outside, Writes};
 use crate::sink::Sink;
 use disk_defs::Fault;
 use std::io::Write;
@@ -12,8 +13,7 @@ use std::marker::Model;
 /// as taken here.
 #[derive(Drop)]
 pub struct StdSink<W> {
-    writer: W,
-    faults: u64,
+    writer: Outside<W>,
 }
 
 /// What a contract sees of it is the count of its faults.
@@ -22,7 +22,7 @@ impl<W> Model for StdSink<W> {
 
     ghost Value = { ℕ };
 
-    ghost view = { λ sink. sink.faults };
+    ghost view = { λ sink. sink.writer.faults };
 }
 
 impl<W> StdSink<W> {
@@ -30,7 +30,24 @@ impl<W> StdSink<W> {
     pub fn new(writer: W) -> StdSink<W>
         ensures { result ≡ 0 }
     {
-        StdSink { writer, faults: 0 }
+        StdSink {
+            writer: Outside::new(Some(writer)),
+        }
+    }
+}
+
+/// Writes until a write is answered.
+fn write_answered<W: Writes>(writer: &mut Outside<W>, bytes: &[u8]) -> Result<usize, Fault>
+    ensures within { IfOk result (λ count. count ≤ length bytes.now) }
+    ensures progress { IfOk result (λ count. 0 < length bytes.now → 0 < count) }
+    ensures counted { IsCounted result writer.old.faults writer.new.faults }
+{
+    'again: loop {
+        match writer.write(bytes) {
+            Outcome::Bytes(count) => return Ok(count),
+            Outcome::Again => {}
+            Outcome::Failed => return Err(Fault),
+        }
     }
 }
 
@@ -42,7 +59,6 @@ impl<W: Write> Sink for StdSink<W> {
     ghost faults = { λ sink. sink };
 
     fn write(&mut self, bytes: &[u8]) -> Result<usize, Fault> {
-        let outcome = write_once(&mut self.writer, bytes);
-        counted(&mut self.faults, outcome)
+        write_answered(&mut self.writer, bytes)
     }
 }

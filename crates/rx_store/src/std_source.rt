@@ -2,7 +2,7 @@
 ghost use Rattle.std.specs.Prelude.{OnOk, ◌≡◌, ◌≤◌, length, IfOk, OnErr, IsErr, IsTrue, is_none};
 ghost use Rattle.disk_defs.specs.Count.{IsCounted};
 
-use crate::outside::{counted, read_once};
+use crate::outside::{Outcome, Outside, Reads};
 use crate::source::Source;
 use disk_defs::Fault;
 use std::io::Read;
@@ -12,8 +12,7 @@ use std::marker::Model;
 /// that a signal interrupted is made again, as std does.
 #[derive(Drop)]
 pub struct StdSource<R> {
-    reader: Option<R>,
-    faults: u64,
+    reader: Outside<R>,
 }
 
 impl<R> Model for StdSource<R> {
@@ -22,7 +21,7 @@ impl<R> Model for StdSource<R> {
 
     ghost Value = { SourceOfReader };
 
-    ghost view = { λ source. record { is_missing = is_none source.reader; faults = source.faults } };
+    ghost view = { λ source. record { is_missing = is_none source.reader.device; faults = source.reader.faults } };
 }
 
 impl<R> StdSource<R> {
@@ -30,7 +29,25 @@ impl<R> StdSource<R> {
     pub fn new(reader: Option<R>) -> StdSource<R>
         ensures { result ≡ record { is_missing = is_none reader; faults = 0 } }
     {
-        StdSource { reader, faults: 0 }
+        StdSource {
+            reader: Outside::new(reader),
+        }
+    }
+}
+
+/// Reads until a read is answered.
+fn read_answered<R: Reads>(reader: &mut Outside<R>, buf: &mut [u8]) -> Result<usize, Fault>
+    ensures within { IfOk result (λ count. count ≤ length buf.new) }
+    ensures missing { IsTrue (is_none reader.old.device) → IsErr result }
+    ensures same { is_none reader.new.device ≡ is_none reader.old.device }
+    ensures counted { IsCounted result reader.old.faults reader.new.faults }
+{
+    'again: loop {
+        match reader.read(buf) {
+            Outcome::Bytes(count) => return Ok(count),
+            Outcome::Again => {}
+            Outcome::Failed => return Err(Fault),
+        }
     }
 }
 
@@ -47,10 +64,6 @@ impl<R: Read> Source for StdSource<R> {
         ensures missing { IsTrue self.old.is_missing → IsErr result }
         ensures reader { self.new.is_missing ≡ self.old.is_missing }
     {
-        let outcome = match &mut self.reader {
-            Some(reader) => read_once(reader, buf),
-            None => Err(Fault),
-        };
-        counted(&mut self.faults, outcome)
+        read_answered(&mut self.reader, buf)
     }
 }

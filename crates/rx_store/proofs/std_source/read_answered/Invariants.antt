@@ -1,0 +1,11 @@
+use Rattle.std.proofs.Common.{◌≡◌, is_none}
+use Rattle.rx_store.proofs.std_source.read_answered.Given as goal
+
+abbrev pub invariant-again : goal.invariant-again
+invariant-again g l = record {
+  same : is_none l.reader.device ≡ is_none l.fn.reader.device;
+  calm : l.reader.faults ≡ l.fn.reader.faults;
+}
+
+abbrev pub decreases-again : goal.decreases-again
+decreases-again g l = l.reader.patience
