@@ -2,7 +2,7 @@
 #![tactic(auto)]
 
 use redact_cmd::{Command, Status, parse_words, run, write_status};
-use rx_store::{FileStore, NoMemory, Opened, StdSink, StdSource};
+use rx_store::{FileStore, NoMemory, Opened, Sink, StdSink, StdSource};
 use std::alloc::AllocError;
 use std::env;
 use std::fs::File;
@@ -34,19 +34,23 @@ fn opened(rt: &impl Files<File = File>, path: &str) -> Opened {
     }
 }
 
-/// Carries out the command of the words over the real files and the standard output.
-fn answer(rt: &HostRuntime) -> Status {
-    let Ok(words) = words_of(rt) else {
-        return Status::NoMemory;
-    };
-    let (image, rules) = match files_of(&words) {
+/// Carries out the command of the words over the real files, with its answer into `out`.
+fn answer_to(rt: &HostRuntime, words: &[String], out: &mut impl Sink) -> Status {
+    let (image, rules) = match files_of(words) {
         Some((image, rules)) => (opened(rt, image), File::open(rt, rules).ok()),
         None => (Opened::Absent, None),
     };
     let mut store = FileStore::new(image, Opened::Absent);
     let mut source = StdSource::new(rules);
-    let mut out = StdSink::new(io::writer(rt));
-    run(rt.alloc(), &words, &mut store, &mut source, &mut out)
+    run(rt.alloc(), words, &mut store, &mut source, out)
+}
+
+/// Carries out the command of the program's words, with its answer to the standard output.
+fn answer(rt: &HostRuntime) -> Status {
+    match words_of(rt) {
+        Ok(words) => answer_to(rt, &words, &mut StdSink::new(io::writer(rt))),
+        Err(AllocError) => Status::NoMemory,
+    }
 }
 
 fn main(rt: HostRuntime) -> ExitCode {
@@ -54,3 +58,6 @@ fn main(rt: HostRuntime) -> ExitCode {
     let _ = write_status(&status, &mut StdSink::new(rt.stderr()));
     ExitCode::from(status.code())
 }
+
+#[cfg(test)]
+mod tests;
