@@ -2,6 +2,7 @@
 #![tactic(auto)]
 
 pub mod fills;
+pub mod items;
 pub mod laws;
 pub(crate) mod laying;
 pub mod pieces;
@@ -12,6 +13,7 @@ mod tests;
 pub mod text;
 
 pub use fills::FillMap;
+pub use items::Items;
 pub use pieces::{Piece, PieceKind, Pieces};
 pub use plan::{ListKind, Listed, Listing, Plan};
 pub use range_defs::{Claim, Range};

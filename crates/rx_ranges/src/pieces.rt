@@ -1,7 +1,5 @@
 //! The pieces of a file's part.
-ghost use Rattle.std.specs.Prelude.{◌≡◌};
-
-use std::marker::Model;
+use crate::items::Items;
 
 /// Where the bytes of a piece come from.
 #[derive(Clone, Copy, Debug, PartialEq, Eq)]
@@ -23,32 +21,4 @@ pub struct Piece {
 }
 
 /// The pieces of a part, in the order of its bytes.
-#[derive(Debug, Drop)]
-pub struct Pieces {
-    pieces: Vec<Piece>,
-}
-
-impl Model for Pieces {
-    ghost use Rattle.std.specs.Prelude.{List};
-    ghost use Rattle.rx_ranges.specs.declared.pieces.Piece.{Piece};
-
-    ghost Value = { List Piece };
-
-    ghost view = { λ p. p.pieces.items };
-}
-
-impl Pieces {
-    /// These pieces.
-    pub fn from_vec(items: Vec<Piece>) -> Self
-        ensures { result ≡ items.items }
-    {
-        Pieces { pieces: items }
-    }
-
-    /// The pieces in order.
-    pub fn items(&self) -> &[Piece]
-        ensures { result.now ≡ self.now }
-    {
-        self.pieces.as_slice()
-    }
-}
+pub type Pieces = Items<Piece>;

@@ -1,9 +1,7 @@
 //! The plan: which bytes are filled with what, and which files are listed.
-ghost use Rattle.std.specs.Prelude.{◌≡◌};
-
 use crate::fills::FillMap;
+use crate::items::Items;
 use crate::text::Text;
-use std::marker::Model;
 
 /// Why a file is listed.
 #[derive(Clone, Copy, Debug, PartialEq, Eq)]
@@ -23,35 +21,7 @@ pub struct Listed {
 }
 
 /// The listing of a plan.
-#[derive(Debug, Drop)]
-pub struct Listing {
-    lines: Vec<Listed>,
-}
-
-impl Model for Listing {
-    ghost use Rattle.std.specs.Prelude.{List};
-    ghost use Rattle.rx_ranges.specs.declared.plan.Listed.{Listed};
-
-    ghost Value = { List Listed };
-
-    ghost view = { λ l. l.lines.items };
-}
-
-impl Listing {
-    /// These lines.
-    pub fn from_vec(items: Vec<Listed>) -> Self
-        ensures { result ≡ items.items }
-    {
-        Listing { lines: items }
-    }
-
-    /// The lines in order.
-    pub fn items(&self) -> &[Listed]
-        ensures { result.now ≡ self.now }
-    {
-        self.lines.as_slice()
-    }
-}
+pub type Listing = Items<Listed>;
 
 /// What is to be filled in an image of `image_len` bytes, and what is listed.
 #[derive(Debug, Drop)]
