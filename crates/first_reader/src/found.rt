@@ -11,10 +11,10 @@ ghost use Rattle.volume_defs.specs.FoundFiles.{IsFileOf, AreFilesOf};
 ghost use Rattle.first_reader.specs.Gives.{Gives, GivesItems, IsFirstCounted};
 
 use crate::directory::Entry;
+use crate::fault::FirstReadFault;
 use crate::form::{block_at, inode_at, inode_within, is_sound, may_be_file, may_be_root};
 use crate::read::{read_bytes, read_part};
 use crate::tree::named_entry;
-use crate::fault::FirstReadFault;
 use rx_store::Store;
 use rx_tree::FileEntry;
 use std::alloc::Global;

@@ -19,8 +19,8 @@ mod names;
 mod read;
 mod tree;
 
-pub use fault::FirstReadFault;
 use directory::{leading_entries, may_all_be_named};
+pub use fault::FirstReadFault;
 use found::{read_content, read_files, read_root, read_superblock};
 use kind::read_kind;
 use names::named_inodes;

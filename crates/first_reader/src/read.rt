@@ -10,7 +10,11 @@ use crate::fault::FirstReadFault;
 use rx_store::{Area, Store};
 
 /// Reads the bytes of the image from a place on into the whole buffer.
-pub(crate) fn read_part<S: Store>(store: &mut S, at: u64, buf: &mut [u8]) -> Result<(), FirstReadFault>
+pub(crate) fn read_part<S: Store>(
+    store: &mut S,
+    at: u64,
+    buf: &mut [u8],
+) -> Result<(), FirstReadFault>
     requires { at + length buf.old ≤ size_of Image (S.state store.old) }
     ensures bytes { OnOk result (IfSome (told_image (S.state store.old)) (λ image. buf.new ≡ part image at (length buf.old))) }
     ensures same { S.state store.new ≡ S.state store.old }

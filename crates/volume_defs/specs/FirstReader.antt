@@ -4,7 +4,7 @@ use Rattle.std.specs.List.{list_all}
 use Rattle.std.proofs.Common.{ap, sym, ◌∙◌}
 use Rattle.range_defs.specs.declared.Range.{Range}
 use Rattle.bytes_defs.specs.Bytes.{part}
-use Rattle.image_defs.specs.Ask.{Ask, Done, Stop, run, visits, ◌>>=◌, check, each}
+use Rattle.image_defs.specs.Ask.{Ask, Done, Stop, run, visits, ◌>>=◌, each}
 use Rattle.image_defs.specs.Looks.{bind_gives, check_gives}
 use Rattle.image_defs.specs.Runs.{run_bind_ok, run_bind_err, run_check_true, run_check_false, run_given, visits_next, visits_bind_done, visits_bind_ok, visits_bind_quiet, visits_check_quiet, visits_check_true, visits_each, visits_given}
 use Rattle.rx_tree.specs.declared.file.FileEntry.{FileEntry}

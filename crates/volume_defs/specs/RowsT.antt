@@ -18,7 +18,7 @@ use Rattle.ufs_defs.specs.Blocks.{block_place, pieces_within, block_pieces, cont
 use Rattle.volume_defs.specs.Kind.{kind_of, kind_behind_ntfs, kind_behind_hfs, kind_behind_ufs1}
 use Rattle.volume_defs.specs.FirstForm.{FirstFault, NotFirstForm, first_kind, first_files, files_below, first_file, first_entries, first_root, first_inode, first_superblock, is_first_superblock, is_first_inode, has_block, has_blocks, is_first_root, is_first_entry, is_first_file}
 use Rattle.order_defs.specs.Sorted.{sorted_by_order, distinct}
-use Rattle.volume_defs.specs.ImageT.{image_t}
+use Rattle.volume_defs.specs.ImageT.{zeros_but, image_t}
 
 pub length_t : length image_t ≡ 262144
 unfolding image_t
@@ -27,6 +27,24 @@ length_t = refl
 kind_t : run {E = FirstFault} image_t kind_of ≡ Ok (Some Ufs2)
 unfolding image_t kind_of kind_behind_ntfs kind_behind_hfs kind_behind_ufs1 part
 kind_t = refl
+
+-- no place of a magic is looked at behind one that fits: an NTFS, an HFS+ and a UFS1, and an image of none
+ntfs_places_t : visits (zeros_but 0 2048 ((3, 78 ∷ 84 ∷ 70 ∷ 83 ∷ 32 ∷ 32 ∷ 32 ∷ 32 ∷ []) ∷ (510, 0x55 ∷ 0xAA ∷ []) ∷ [])) (kind_of {E = FirstFault}) ≡ record { at = 3; len = 8 } ∷ record { at = 510; len = 2 } ∷ []
+unfolding kind_of part
+ntfs_places_t = refl
+
+hfs_places_t : visits (zeros_but 0 2048 ((1024, 0x48 ∷ 0x58 ∷ 0 ∷ 5 ∷ []) ∷ [])) (kind_of {E = FirstFault}) ≡ record { at = 3; len = 8 } ∷ record { at = 510; len = 2 } ∷ record { at = 1024; len = 4 } ∷ []
+unfolding kind_of kind_behind_ntfs part
+hfs_places_t = refl
+
+ufs1_places_t : visits (zeros_but 0 10000 ((9564, 0x54 ∷ 0x19 ∷ 0x01 ∷ 0x00 ∷ []) ∷ [])) (kind_of {E = FirstFault})
+    ≡ record { at = 3; len = 8 } ∷ record { at = 510; len = 2 } ∷ record { at = 1024; len = 4 } ∷ record { at = 9564; len = 4 } ∷ []
+unfolding kind_of kind_behind_ntfs kind_behind_hfs part
+ufs1_places_t = refl
+
+no_kind_t : run {E = FirstFault} (zeros_but 0 2048 []) kind_of ≡ Ok None
+unfolding kind_of kind_behind_ntfs kind_behind_hfs kind_behind_ufs1 part
+no_kind_t = refl
 
 superblock_t : wrong_field (superblock_of (part image_t 65536 1376)) ≡ None
 unfolding image_t part superblock_of wrong_field is_block_size is_fragment_size is_fragment_count is_inode_count number_at signed_at ones
