@@ -1,0 +1,45 @@
+//! The ends of the strides of a stored record.
+ghost use Rattle.std.specs.Prelude.{◌≡◌, ℕ, ◌+◌, ◌*◌, ◌/◌, ◌%◌, ◌<◌, ◌≤◌, length};
+ghost use Rattle.ntfs_record_defs.specs.Record.{header_of};
+ghost use Rattle.ntfs_record.specs.Mending.{ends_check, filled};
+
+use crate::walk::part_of;
+use bytes_defs::Order;
+use bytes_defs::field::u16_at;
+use ntfs_record_defs::fault::RecordFault;
+
+/// The bytes of a stride.
+const STRIDE: usize = 512;
+
+/// Each stride has to end with the check number, which stands in front of the array.
+#[tactic(auto, unfolding(ntfs_record_defs::specs::Record::header_of))]
+pub(crate) fn check_ends(bytes: &[u8]) -> Result<(), RecordFault>
+    requires size { 1024 ≤ length bytes.now }
+    requires array { (header_of bytes.now).array + 2 ≤ 510 }
+    ensures { result ≡ ends_check bytes.now }
+{
+    let number = part_of(bytes, usize::from(u16_at(Order::Little, bytes, 4)), 2);
+    for stride in 0..bytes.len() / STRIDE {
+        if part_of(bytes, STRIDE * stride + 510, 2) != number {
+            return Err(RecordFault::BadFixup { stride });
+        }
+    }
+    Ok(())
+}
+
+/// Copies two bytes to the end of each stride: those at `from` to that of the first one, and for each next one those
+/// that stand `step` bytes further.
+pub(crate) fn fill_ends(bytes: &mut [u8], from: usize, step: usize)
+    requires strides { length bytes.old % 512 ≡ 0 }
+    requires front { (stride : ℕ) → stride < length bytes.old / 512 → from + step * stride + 2 ≤ 510 }
+    ensures { bytes.new ≡ filled from step bytes.old }
+{
+    for stride in 0..bytes.len() / STRIDE {
+        let place = from + step * stride;
+        let first = bytes[place];
+        let second = bytes[place + 1];
+        let end = STRIDE * stride + 510;
+        bytes[end] = first;
+        bytes[end + 1] = second;
+    }
+}
