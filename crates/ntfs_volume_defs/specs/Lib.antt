@@ -1,0 +1,13 @@
+pub mod Boot
+pub mod Streams
+pub mod Slots
+pub mod Segments
+pub mod Lists
+pub mod Mft
+pub mod Names
+pub mod Parts
+pub mod Files
+pub mod Paths
+pub mod Guard
+pub mod Volume
+pub mod VolumeRows

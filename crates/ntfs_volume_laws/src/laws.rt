@@ -1,0 +1,8 @@
+//! Laws of a volume.
+ghost use Rattle.ntfs_volume_laws.specs.VolumeLaws.{FootprintLaw};
+
+/// The law of the footprint: an image that has the same length, and the same bytes in the guard of a volume, has that
+/// volume with all its files, and the same guard.
+pub fn a_volume_rests_on_its_guard()
+    ensures { FootprintLaw }
+{}

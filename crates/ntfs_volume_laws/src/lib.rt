@@ -1,0 +1,4 @@
+//! Laws of NTFS volumes.
+#![tactic(auto)]
+
+pub mod laws;
