@@ -10,7 +10,7 @@ use Rattle.range_defs.specs.Places.{in_range, covers}
 use Rattle.bytes_defs.specs.Bytes.{part}
 use Rattle.image_defs.specs.Ask.{Done, run, given, each}
 use Rattle.image_defs.specs.Agreement.{AgreeOn, run_agree}
-use Rattle.image_defs.specs.Guard.{longest-covers}
+use Rattle.range_defs.specs.RangeLaws.{longest_ranges_covers}
 use Rattle.image_defs.specs.Runs.{run_given}
 use Rattle.image_defs.specs.Looks.{LooksAt, looks_done, looks_bind_ok, looks_check, looks_look, looks_given, bind_gives, check_gives, given_gives}
 use Rattle.image_defs.specs.Via.{look_bytes}
@@ -338,7 +338,7 @@ same_in_guard : (a b : List ℕ) (volume : FoundVolume) → AgreeOn (guard_of (l
 unfolding guard_of
 same_in_guard a b volume agree byte guarded =
     ⊎_elim
-    (λ inside. agree.same_bytes byte (longest-covers (is_guarded volume.mft volume.files) 0 (length a) byte (omega arith) (omega (arith, inside)) ∙ guarded))
+    (λ inside. agree.same_bytes byte (longest_ranges_covers (is_guarded volume.mft volume.files) (length a) byte (omega (arith, inside)) ∙ guarded))
     (λ past. slice_get_past a byte past ∙ sym (slice_get_past b byte (omega (arith, past, agree.same_length))))
     (cases_lt byte (length a))
 
