@@ -1,0 +1,20 @@
+//! Laws of forks and of tree files: the contract of each of these functions is a law, and its body is empty.
+ghost use Rattle.hfs_defs.specs.Chain.{LeavesLaw};
+ghost use Rattle.hfs_defs.specs.ForkDamage.{ForkDamageLaw};
+ghost use Rattle.hfs_defs.specs.Forks.{ForkLaw};
+
+/// The pieces of a fork without a fault cover it in order, are as long as possible, and put each byte where it stands.
+pub fn pieces_are_the_fork()
+    ensures { ForkLaw }
+{}
+
+/// What is told to be wrong with a fork is wrong with it, and nothing is wrong with a fork of which nothing is told.
+pub fn fork_damage_is_there()
+    ensures { ForkDamageLaw }
+{}
+
+/// The leaf records of a tree file are those of its chain, from the first leaf node to the last, and what stops them is
+/// a false clause.
+pub fn leaves_are_the_chain()
+    ensures { LeavesLaw }
+{}
