@@ -5,4 +5,5 @@ pub mod Nodes
 pub mod Leaves
 pub mod Chain
 pub mod Overflow
+pub mod TreeFiles
 pub mod Rows

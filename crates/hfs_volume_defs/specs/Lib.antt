@@ -1,0 +1,5 @@
+pub mod Catalog
+pub mod Folders
+pub mod Files
+pub mod Volume
+pub mod VolumeRows
