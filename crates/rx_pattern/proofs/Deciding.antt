@@ -4,7 +4,7 @@ use Rattle.std.specs.Prelude.{IsTrue}
 use Rattle.std.proofs.lemmas.Bool.{false≢true, and_parts, and_from}
 use Rattle.std.proofs.lemmas.List.{take-append-drop, drop_at}
 use Rattle.rx_pattern.specs.declared.item.Item.{Item}
-use Rattle.rx_pattern.specs.declared.item.Item.TheVariants.{Plain, AnyOne, Run, OneOf}
+use Rattle.rx_pattern.specs.declared.item.Item.TheVariants.{Plain, AnyOne, Star, OneOf}
 use Rattle.rx_pattern.specs.Match.{item_takes, BeginsWith, Match}
 use Rattle.rx_pattern.specs.MatchTest.{is_match, first_then}
 use Rattle.rx_pattern.proofs.Tries.{some_rest-shows, some_rest-from}
@@ -20,7 +20,7 @@ Match-shown : (items : List Item) (text : List ℕ) → is_match items text ≡ 
 unfolding Match is_match
 Match-shown [] [] passes = refl
 Match-shown [] (c ∷ text) passes = absurd (false≢true passes)
-Match-shown (Run ∷ items) text passes =
+Match-shown (Star ∷ items) text passes =
     let found = some_rest-shows (is_match items) text passes in
     (take found.0 text, drop found.0 text, sym (take-append-drop found.0 text), Match-shown items (drop found.0 text) found.1)
 Match-shown (Plain plain ∷ items) text passes = begins-shown (Plain plain) items text (Match-shown items) passes
@@ -36,7 +36,7 @@ begins-tested item items text later begins =
 Match-tested : (items : List Item) (text : List ℕ) → Match items text → is_match items text ≡ true
 unfolding Match is_match
 Match-tested [] text matches = ap (is_match []) matches
-Match-tested (Run ∷ items) text matches =
+Match-tested (Star ∷ items) text matches =
     some_rest-from (is_match items) text (length matches.0)
     (ap (is_match items) (ap (drop (length matches.0)) matches.2 ∙ drop_at matches.0 matches.1 (length matches.0) refl)
     ∙ Match-tested items matches.1 matches.3)

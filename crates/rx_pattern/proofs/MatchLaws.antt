@@ -3,7 +3,7 @@ use Rattle.std.proofs.Common.{◌≡◌, ℕ, List, [], ◌∷◌, ◌++◌, ◌
 use Rattle.std.specs.Prelude.{map}
 use Rattle.std.proofs.lemmas.Bool.{eqb-true, eq-eqb}
 use Rattle.rx_pattern.specs.declared.item.Item.{Item}
-use Rattle.rx_pattern.specs.declared.item.Item.TheVariants.{Plain, AnyOne, Run, OneOf}
+use Rattle.rx_pattern.specs.declared.item.Item.TheVariants.{Plain, AnyOne, Star, OneOf}
 use Rattle.rx_pattern.specs.Match.{BeginsWith, Match, IsSplit}
 
 plain_matches : (letters text : List ℕ) → Match (map Plain letters) text → text ≡ letters
@@ -25,15 +25,15 @@ plain_matches_itself letters text =
     (plain_matches letters text, λ same. subst (Match (map Plain letters)) (sym same) (matches_itself letters))
 
 -- a run alone matches everything
-pub run_matches_all : (text : List ℕ) → Match (Run ∷ []) text
+pub run_matches_all : (text : List ℕ) → Match (Star ∷ []) text
 unfolding Match
 run_matches_all text = (text, [], sym (append-nil text), refl)
 
 -- one more character in front
 split_behind : (item : Item) (front back : List Item) (text : List ℕ)
     → ((before : List ℕ) → BeginsWith item (Match front) before → Match (item ∷ front) before)
-    → ((rest : List ℕ) → Match (front ++ Run ∷ back) rest → IsSplit front back rest)
-    → BeginsWith item (Match (front ++ Run ∷ back)) text → IsSplit (item ∷ front) back text
+    → ((rest : List ℕ) → Match (front ++ Star ∷ back) rest → IsSplit front back rest)
+    → BeginsWith item (Match (front ++ Star ∷ back)) text → IsSplit (item ∷ front) back text
 split_behind item front back text one later begins =
     let split = later begins.1 begins.4 in
     record {
@@ -45,7 +45,7 @@ split_behind item front back text one later begins =
       back_matches = split.back_matches;
     }
 
-split_round : (front back : List Item) (text : List ℕ) → Match (front ++ Run ∷ back) text → IsSplit front back text
+split_round : (front back : List Item) (text : List ℕ) → Match (front ++ Star ∷ back) text → IsSplit front back text
 unfolding Match
 split_round [] back text matches = record {
   before = [];
@@ -55,7 +55,7 @@ split_round [] back text matches = record {
   front_matches = refl;
   back_matches = matches.3;
 }
-split_round (Run ∷ front) back text matches =
+split_round (Star ∷ front) back text matches =
     let split = split_round front back matches.1 matches.3 in
     record {
       before = matches.0 ++ split.before;
@@ -73,8 +73,8 @@ split_round (OneOf class ∷ front) back text matches = split_behind (OneOf clas
 
 -- one more character in front of a split
 joined_behind : (item : Item) (front back : List Item) (before run behind text : List ℕ) → text ≡ before ++ run ++ behind
-    → ((rest middle : List ℕ) → rest ≡ middle ++ run ++ behind → Match front middle → Match (front ++ Run ∷ back) rest)
-    → BeginsWith item (Match front) before → BeginsWith item (Match (front ++ Run ∷ back)) text
+    → ((rest middle : List ℕ) → rest ≡ middle ++ run ++ behind → Match front middle → Match (front ++ Star ∷ back) rest)
+    → BeginsWith item (Match front) before → BeginsWith item (Match (front ++ Star ∷ back)) text
 joined_behind item front back before run behind text whole later begins = (
   begins.0,
   begins.1 ++ run ++ behind,
@@ -84,11 +84,11 @@ joined_behind item front back before run behind text whole later begins = (
 )
 
 joined_round : (front back : List Item) (before run behind text : List ℕ) → text ≡ before ++ run ++ behind → Match front before → Match back behind
-    → Match (front ++ Run ∷ back) text
+    → Match (front ++ Star ∷ back) text
 unfolding Match
 joined_round [] back before run behind text whole front_matches back_matches =
     (run, behind, whole ∙ ap (λ first. first ++ run ++ behind) front_matches, back_matches)
-joined_round (Run ∷ front) back before run behind text whole front_matches back_matches =
+joined_round (Star ∷ front) back before run behind text whole front_matches back_matches =
     let first = front_matches.0 in
     let middle = front_matches.1 in (
       first,
@@ -108,7 +108,7 @@ joined_round (OneOf class ∷ front) back before run behind text whole front_mat
     (λ rest middle is matches. joined_round front back middle run behind rest is matches back_matches) front_matches
 
 -- a match of items with a run between them splits the text
-pub run_splits : (front back : List Item) (text : List ℕ) → Match (front ++ Run ∷ back) text ↔ IsSplit front back text
+pub run_splits : (front back : List Item) (text : List ℕ) → Match (front ++ Star ∷ back) text ↔ IsSplit front back text
 run_splits front back text = (
   split_round front back text,
   λ split. joined_round front back split.before split.run split.behind text split.whole split.front_matches split.back_matches,

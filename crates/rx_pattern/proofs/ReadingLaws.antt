@@ -8,7 +8,7 @@ use Rattle.std.proofs.lemmas.List.Elements.{All-head, All-tail, All-cons, All-ni
 use Rattle.std.proofs.lemmas.Bool.{ne_eqb, eq-eqb, cases_eq}
 use Rattle.rx_pattern.specs.declared.class.Class.{Class}
 use Rattle.rx_pattern.specs.declared.item.Item.{Item}
-use Rattle.rx_pattern.specs.declared.item.Item.TheVariants.{Plain, AnyOne, Run, OneOf}
+use Rattle.rx_pattern.specs.declared.item.Item.TheVariants.{Plain, AnyOne, Star, OneOf}
 use Rattle.rx_pattern.specs.Reading.{IsOrdinary, members_of, before_closing, inside_of, is_negated, behind_mark, class_of, class_width, item_of, item_from, item_width, in_front, behind_items, items_past, items_of, byte_len, with_place, read_pattern, IsFirstOpen}
 use Rattle.rx_pattern.proofs.ItemsOf.{items_of-first, items_of-class}
 use Rattle.rx_pattern.proofs.Closing.{inside_of-plain, inside_of-negated, class_width-plain, class_width-negated}
@@ -321,8 +321,8 @@ pub empty_reads : items_of [] ≡ Ok []
 unfolding items_past
 empty_reads = refl
 
-pub star_reads : (text : List ℕ) → items_of (42 ∷ text) ≡ behind_items (Run ∷ []) (items_of text)
-star_reads text = one_reads 42 text Run (λ same. absurd (omega (arith, same))) refl
+pub star_reads : (text : List ℕ) → items_of (42 ∷ text) ≡ behind_items (Star ∷ []) (items_of text)
+star_reads text = one_reads 42 text Star (λ same. absurd (omega (arith, same))) refl
 
 pub question_reads : (text : List ℕ) → items_of (63 ∷ text) ≡ behind_items (AnyOne ∷ []) (items_of text)
 question_reads text = one_reads 63 text AnyOne (λ same. absurd (omega (arith, same))) refl
@@ -356,9 +356,9 @@ negated_reads first others text inner =
 
 -- a `*` between two texts that read is a run between their items
 pub star_between : (first last : List ℕ) (front back : List Item) → items_of first ≡ Ok front → items_of last ≡ Ok back
-    → items_of (first ++ 42 ∷ last) ≡ Ok (front ++ Run ∷ back)
+    → items_of (first ++ 42 ∷ last) ≡ Ok (front ++ Star ∷ back)
 star_between first last front back reads back_reads =
-    front_reads first (42 ∷ last) front reads ∙ ap (behind_items front) (star_reads last ∙ ap (behind_items (Run ∷ [])) back_reads)
+    front_reads first (42 ∷ last) front reads ∙ ap (behind_items front) (star_reads last ∙ ap (behind_items (Star ∷ [])) back_reads)
 
-pub star_alone : items_of (42 ∷ []) ≡ Ok (Run ∷ [])
-star_alone = star_reads [] ∙ ap (behind_items (Run ∷ [])) empty_reads
+pub star_alone : items_of (42 ∷ []) ≡ Ok (Star ∷ [])
+star_alone = star_reads [] ∙ ap (behind_items (Star ∷ [])) empty_reads

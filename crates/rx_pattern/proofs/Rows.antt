@@ -2,24 +2,24 @@
 use Rattle.std.specs.Prelude.{◌≡◌, true, false, Ok, Err, [], ◌∷◌, codes, refl}
 use lib.Utf8.{encode}
 use Rattle.rx_pattern.specs.declared.class.Member.TheVariants.{Single, Between}
-use Rattle.rx_pattern.specs.declared.item.Item.TheVariants.{Plain, Run, OneOf}
+use Rattle.rx_pattern.specs.declared.item.Item.TheVariants.{Plain, Star, OneOf}
 use Rattle.rx_pattern.specs.Match.{item_takes}
 use Rattle.rx_pattern.specs.MatchTest.{is_match}
 use Rattle.rx_pattern.specs.Reading.{read_pattern, items_past, members_past, before_closing}
 
-star_reads : read_pattern (codes "f*3.dat") ≡ Ok (Plain 102 ∷ Run ∷ Plain 51 ∷ Plain 46 ∷ Plain 100 ∷ Plain 97 ∷ Plain 116 ∷ [])
+star_reads : read_pattern (codes "f*3.dat") ≡ Ok (Plain 102 ∷ Star ∷ Plain 51 ∷ Plain 46 ∷ Plain 100 ∷ Plain 97 ∷ Plain 116 ∷ [])
 unfolding items_past
 star_reads = refl
 
-star_matches : is_match (Plain 102 ∷ Run ∷ Plain 51 ∷ Plain 46 ∷ Plain 100 ∷ Plain 97 ∷ Plain 116 ∷ []) (codes "f0013.dat") ≡ true
+star_matches : is_match (Plain 102 ∷ Star ∷ Plain 51 ∷ Plain 46 ∷ Plain 100 ∷ Plain 97 ∷ Plain 116 ∷ []) (codes "f0013.dat") ≡ true
 unfolding is_match
 star_matches = refl
 
-star_misses : is_match (Plain 102 ∷ Run ∷ Plain 51 ∷ Plain 46 ∷ Plain 100 ∷ Plain 97 ∷ Plain 116 ∷ []) (codes "f0013.data") ≡ false
+star_misses : is_match (Plain 102 ∷ Star ∷ Plain 51 ∷ Plain 46 ∷ Plain 100 ∷ Plain 97 ∷ Plain 116 ∷ []) (codes "f0013.data") ≡ false
 unfolding is_match
 star_misses = refl
 
-star_matches_nothing : is_match (Run ∷ []) [] ≡ true
+star_matches_nothing : is_match (Star ∷ []) [] ≡ true
 unfolding is_match
 star_matches_nothing = refl
 

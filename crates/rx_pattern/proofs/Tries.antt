@@ -3,7 +3,7 @@ use Rattle.std.proofs.Common.{◌≡◌, ℕ, zero, suc, ◌+◌, Bool, true, fa
 use Rattle.std.proofs.lemmas.Bool.{true≢false, false≢true, or_cases, or_left, or_right, and_parts, and_left}
 use Rattle.std.proofs.lemmas.List.{drop-drop}
 use Rattle.rx_pattern.specs.declared.item.Item.{Item}
-use Rattle.rx_pattern.specs.declared.item.Item.TheVariants.{Plain, AnyOne, Run, OneOf}
+use Rattle.rx_pattern.specs.declared.item.Item.TheVariants.{Plain, AnyOne, Star, OneOf}
 use Rattle.rx_pattern.specs.Match.{item_takes}
 use Rattle.rx_pattern.specs.MatchTest.{is_match, some_rest}
 use Rattle.rx_pattern.specs.Tries.{first_takes_first, begins_with_run, nothing_left}
@@ -45,7 +45,7 @@ pub is_match-taken : (items : List Item) (text : List ℕ) → first_takes_first
 unfolding is_match
 is_match-taken [] text takes = absurd (false≢true takes)
 is_match-taken (item ∷ items) [] takes = absurd (false≢true takes)
-is_match-taken (Run ∷ items) (c ∷ text) takes = absurd (false≢true takes)
+is_match-taken (Star ∷ items) (c ∷ text) takes = absurd (false≢true takes)
 is_match-taken (Plain plain ∷ items) (c ∷ text) takes = rw takes refl
 is_match-taken (AnyOne ∷ items) (c ∷ text) takes = refl
 is_match-taken (OneOf class ∷ items) (c ∷ text) takes = rw takes refl
@@ -55,7 +55,7 @@ is_match-behind : (items : List Item) (some text : List ℕ) → first_takes_fir
 unfolding is_match
 is_match-behind [] some text takes matches = absurd (false≢true takes)
 is_match-behind (item ∷ items) [] text takes matches = absurd (false≢true takes)
-is_match-behind (Run ∷ items) (d ∷ some) text takes matches = absurd (false≢true takes)
+is_match-behind (Star ∷ items) (d ∷ some) text takes matches = absurd (false≢true takes)
 is_match-behind (Plain plain ∷ items) (d ∷ some) [] takes matches = absurd (false≢true matches)
 is_match-behind (AnyOne ∷ items) (d ∷ some) [] takes matches = absurd (false≢true matches)
 is_match-behind (OneOf class ∷ items) (d ∷ some) [] takes matches = absurd (false≢true matches)
@@ -83,7 +83,7 @@ drop-swapped first last between text =
 pub is_match-behind_run : (items : List Item) (text : List ℕ) → begins_with_run items ≡ true → is_match items text ≡ some_rest (is_match (drop 1 items)) text
 unfolding is_match
 is_match-behind_run [] text run = absurd (false≢true run)
-is_match-behind_run (Run ∷ items) text run = refl
+is_match-behind_run (Star ∷ items) text run = refl
 is_match-behind_run (Plain plain ∷ items) text run = absurd (false≢true run)
 is_match-behind_run (AnyOne ∷ items) text run = absurd (false≢true run)
 is_match-behind_run (OneOf class ∷ items) text run = absurd (false≢true run)
@@ -114,7 +114,7 @@ is_match-fails : (items : List Item) (text : List ℕ) → first_takes_first ite
 unfolding is_match
 is_match-fails [] [] fails no_run goes_on = absurd (true≢false goes_on)
 is_match-fails [] (c ∷ text) fails no_run goes_on = refl
-is_match-fails (Run ∷ items) text fails no_run goes_on = absurd (true≢false no_run)
+is_match-fails (Star ∷ items) text fails no_run goes_on = absurd (true≢false no_run)
 is_match-fails (Plain plain ∷ items) [] fails no_run goes_on = refl
 is_match-fails (AnyOne ∷ items) [] fails no_run goes_on = refl
 is_match-fails (OneOf class ∷ items) [] fails no_run goes_on = refl

@@ -5,7 +5,7 @@ use Rattle.rx_pattern.specs.declared.class.Member.{Member}
 use Rattle.rx_pattern.specs.declared.class.Member.TheVariants.{Single, Between}
 use Rattle.rx_pattern.specs.declared.class.Class.{Class}
 use Rattle.rx_pattern.specs.declared.item.Item.{Item}
-use Rattle.rx_pattern.specs.declared.item.Item.TheVariants.{Plain, AnyOne, Run, OneOf}
+use Rattle.rx_pattern.specs.declared.item.Item.TheVariants.{Plain, AnyOne, Star, OneOf}
 
 -- whether a member of a class has a character
 abbrev pub has_character : Member → ℕ → Bool
@@ -22,7 +22,7 @@ class_takes class c =
 abbrev pub item_takes : Item → ℕ → Bool
 item_takes (Plain plain) c = c == plain
 item_takes AnyOne c = true
-item_takes Run c = false
+item_takes Star c = false
 item_takes (OneOf class) c = class_takes class c
 
 -- the text's first character is one that an item takes, and what is behind it is as wanted
@@ -32,7 +32,7 @@ BeginsWith item Later text = (c : ℕ) × (rest : List ℕ) × (text ≡ c ∷ r
 -- the items match the whole text: none the empty one, a run any beginning of it, and another item its first character
 unfoldable pub Match : List Item → List ℕ → Type 0
 Match [] text = text ≡ []
-Match (Run ∷ items) text = (run : List ℕ) × (rest : List ℕ) × (text ≡ run ++ rest) × Match items rest
+Match (Star ∷ items) text = (run : List ℕ) × (rest : List ℕ) × (text ≡ run ++ rest) × Match items rest
 Match (Plain plain ∷ items) text = BeginsWith (Plain plain) (Match items) text
 Match (AnyOne ∷ items) text = BeginsWith AnyOne (Match items) text
 Match (OneOf class ∷ items) text = BeginsWith (OneOf class) (Match items) text

@@ -1,7 +1,7 @@
 -- A test of whether a pattern matches a text.
 use Rattle.std.specs.Prelude.{ℕ, Bool, true, false, ◌&&◌, ◌||◌, List, [], ◌∷◌}
 use Rattle.rx_pattern.specs.declared.item.Item.{Item}
-use Rattle.rx_pattern.specs.declared.item.Item.TheVariants.{Plain, AnyOne, Run, OneOf}
+use Rattle.rx_pattern.specs.declared.item.Item.TheVariants.{Plain, AnyOne, Star, OneOf}
 use Rattle.rx_pattern.specs.Match.{item_takes}
 
 -- whether some rest of a text, the whole one and the empty one too, passes a test
@@ -21,7 +21,7 @@ is_empty (c ∷ text) = false
 
 -- whether an item matches the beginning of a text, and what is behind it passes a test
 abbrev pub item_then : Item → (List ℕ → Bool) → List ℕ → Bool
-item_then Run later text = some_rest later text
+item_then Star later text = some_rest later text
 item_then (Plain plain) later text = first_then (item_takes (Plain plain)) later text
 item_then AnyOne later text = first_then (item_takes AnyOne) later text
 item_then (OneOf class) later text = first_then (item_takes (OneOf class)) later text

@@ -5,7 +5,7 @@ use Rattle.rx_pattern.specs.declared.class.Member.{Member}
 use Rattle.rx_pattern.specs.declared.class.Member.TheVariants.{Single, Between}
 use Rattle.rx_pattern.specs.declared.class.Class.{Class}
 use Rattle.rx_pattern.specs.declared.item.Item.{Item}
-use Rattle.rx_pattern.specs.declared.item.Item.TheVariants.{Plain, AnyOne, Run, OneOf}
+use Rattle.rx_pattern.specs.declared.item.Item.TheVariants.{Plain, AnyOne, Star, OneOf}
 
 -- the last character of a range, where a `-` and another character of the class follow the first one
 abbrev pub range_end : List ℕ → Option ℕ
@@ -63,7 +63,7 @@ class_width cs = (if is_negated cs then 1 else 0) + length (unwrap_or (inside_of
 
 -- the item of a character that begins no class
 abbrev pub item_of : ℕ → Item
-item_of c = if c == 42 then Run else (if c == 63 then AnyOne else Plain c)
+item_of c = if c == 42 then Star else (if c == 63 then AnyOne else Plain c)
 
 -- the item that begins with a character; None where that is a `[` that isn't closed
 abbrev pub item_from : ℕ → List ℕ → Option Item

@@ -1,7 +1,7 @@
 -- What a try of a pattern's items at a text meets next.
 use Rattle.std.specs.Prelude.{ℕ, Bool, true, false, List, [], ◌∷◌}
 use Rattle.rx_pattern.specs.declared.item.Item.{Item}
-use Rattle.rx_pattern.specs.declared.item.Item.TheVariants.{Plain, AnyOne, Run, OneOf}
+use Rattle.rx_pattern.specs.declared.item.Item.TheVariants.{Plain, AnyOne, Star, OneOf}
 use Rattle.rx_pattern.specs.Match.{item_takes}
 use Rattle.rx_pattern.specs.MatchTest.{is_empty}
 
@@ -14,7 +14,7 @@ first_takes_first (item ∷ items) (c ∷ text) = item_takes item c
 -- whether the first item is a run
 abbrev pub begins_with_run : List Item → Bool
 begins_with_run [] = false
-begins_with_run (Run ∷ items) = true
+begins_with_run (Star ∷ items) = true
 begins_with_run (Plain plain ∷ items) = false
 begins_with_run (AnyOne ∷ items) = false
 begins_with_run (OneOf class ∷ items) = false

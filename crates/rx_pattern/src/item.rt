@@ -12,7 +12,7 @@ pub enum Item {
     /// Any one character.
     AnyOne,
     /// Any run of characters, also an empty one.
-    Run,
+    Star,
     /// One character that a class takes.
     OneOf(Class),
 }
@@ -25,7 +25,7 @@ impl Item {
         match self {
             Item::Plain(plain) => c == *plain,
             Item::AnyOne => true,
-            Item::Run => false,
+            Item::Star => false,
             Item::OneOf(class) => class.takes(c),
         }
     }

@@ -5,12 +5,12 @@ ghost use Rattle.rx_pattern.specs.MatchTest.{is_match};
 ghost use Rattle.rx_pattern.specs.Reading.{IsOrdinary, IsFirstOpen, behind_items, inside_of, items_of, members_of, read_pattern};
 ghost use Rattle.rx_pattern.specs.declared.class.Member.TheVariants.{Single, Between};
 ghost use Rattle.rx_pattern.specs.declared.item.Item.{Item};
-ghost use Rattle.rx_pattern.specs.declared.item.Item.TheVariants.{Plain, AnyOne, Run, OneOf};
+ghost use Rattle.rx_pattern.specs.declared.item.Item.TheVariants.{Plain, AnyOne, Star, OneOf};
 
 /// A text reads item by item: `*`, `?`, a character that stands for itself, and a class up to its `]`, with a `!` or none.
 pub fn a_text_reads_from_the_left()
     ensures empty { items_of [] ≡ Ok [] }
-    ensures star { (text : List ℕ) → items_of (42 ∷ text) ≡ behind_items (Run ∷ []) (items_of text) }
+    ensures star { (text : List ℕ) → items_of (42 ∷ text) ≡ behind_items (Star ∷ []) (items_of text) }
     ensures question { (text : List ℕ) → items_of (63 ∷ text) ≡ behind_items (AnyOne ∷ []) (items_of text) }
     ensures ordinary { (c : ℕ) (text : List ℕ) → IsOrdinary c
         → items_of (c ∷ text) ≡ behind_items (Plain c ∷ []) (items_of text) }
@@ -66,14 +66,14 @@ pub fn a_plain_pattern_matches_itself()
 
 /// The pattern `*` matches everything.
 pub fn a_star_matches_everything()
-    ensures reads { items_of (42 ∷ []) ≡ Ok (Run ∷ []) }
-    ensures matches { (text : List ℕ) → Match (Run ∷ []) text }
+    ensures reads { items_of (42 ∷ []) ≡ Ok (Star ∷ []) }
+    ensures matches { (text : List ℕ) → Match (Star ∷ []) text }
 {}
 
 /// A match of two patterns with a `*` between them splits the text.
 pub fn a_star_splits_the_text()
     ensures reads { (first last : List ℕ) (front back : List Item) → items_of first ≡ Ok front → items_of last ≡ Ok back
-        → items_of (first ++ 42 ∷ last) ≡ Ok (front ++ Run ∷ back) }
+        → items_of (first ++ 42 ∷ last) ≡ Ok (front ++ Star ∷ back) }
     ensures matches { (front back : List Item) (text : List ℕ)
-        → Match (front ++ Run ∷ back) text ↔ IsSplit front back text }
+        → Match (front ++ Star ∷ back) text ↔ IsSplit front back text }
 {}

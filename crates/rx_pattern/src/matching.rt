@@ -79,7 +79,7 @@ fn behind_run(items: &[Item]) -> Option<&[Item]>
         × (length later.now < length items.now)) }
 {
     match items.split_first() {
-        Some((Item::Run, later)) => Some(later),
+        Some((Item::Star, later)) => Some(later),
         _ => None,
     }
 }

@@ -14,7 +14,7 @@ pub(crate) fn item_of(c: char) -> Item
     ensures { result ≡ item_of c }
 {
     match c {
-        '*' => Item::Run,
+        '*' => Item::Star,
         '?' => Item::AnyOne,
         plain => Item::Plain(plain),
     }
