@@ -1,5 +1,5 @@
 -- What the reading of an image answers at each of its ends.
-use Rattle.std.proofs.Common.{◌≡◌, ℕ, true, false, Option, Some, None, IfSome, Result, Ok, Err, List, [], ◌∷◌, length, ap, sym, ◌∙◌}
+use Rattle.std.proofs.Common.{◌≡◌, ℕ, true, false, Option, Some, None, IfSome, Result, Ok, Err, List, ◌∷◌, length, ap, sym, ◌∙◌}
 use Rattle.std.specs.List.{list_all}
 use Rattle.std.specs.Result.{IsErr, IsErrAnd}
 use Rattle.range_defs.specs.Places.{covers, longest_ranges}

@@ -1,5 +1,5 @@
 -- The kind of an image, magic by magic.
-use Rattle.std.proofs.Common.{◌≡◌, ℕ, Bool, true, false, Option, Some, None, IfSome, Result, Ok, Err, List, sym, ap, subst}
+use Rattle.std.proofs.Common.{◌≡◌, ℕ, Bool, true, false, Option, Some, None, IfSome, Result, Ok, List, sym, ap, subst}
 use Rattle.bytes_defs.specs.Bytes.{part}
 use Rattle.image_defs.specs.Ask.{Ask, Look, run}
 use Rattle.rx_tree.specs.declared.volume.FsKind.{FsKind}

@@ -1,5 +1,5 @@
 -- What is told of an image at each step of its reading.
-use Rattle.std.proofs.Common.{◌≡◌, ℕ, true, false, Option, Some, None, IfSome, Result, Ok, Err, List, [], ◌∷◌, ap, sym, subst, ◌∙◌}
+use Rattle.std.proofs.Common.{◌≡◌, ℕ, true, false, Option, Some, None, IfSome, Result, Ok, Err, List, ap, sym, subst, ◌∙◌}
 use Rattle.std.proofs.lemmas.Bool.{false≢true}
 use Rattle.std.specs.Result.{IsErr, IsErrAnd}
 use Rattle.bytes_defs.specs.Bytes.{part}
@@ -12,7 +12,7 @@ use Rattle.volume_defs.specs.FirstForm.{FirstFault, NotFirstForm, is_first_super
 use Rattle.ufs_defs.specs.Directory.{Entry, entries_of}
 use Rattle.ufs_defs.specs.Blocks.{block_place}
 use Rattle.volume_defs.specs.FirstReader.{run_first_superblock, run_first_superblock_fault, run_first_inode, run_first_entries}
-use Rattle.first_reader.specs.Gives.{Gives, GivesItems, Refuses}
+use Rattle.first_reader.specs.Gives.{Gives, Refuses}
 use Rattle.first_reader.specs.declared.fault.FirstReadFault.{FirstReadFault}
 use Rattle.first_reader.specs.declared.fault.FirstReadFault.TheVariants.{Device, NoMemory, OtherForm}
 

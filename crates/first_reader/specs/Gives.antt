@@ -1,5 +1,5 @@
 -- What a step of a reader answers, where the image gives this.
-use Rattle.std.specs.Prelude.{◌≡◌, ℕ, Result, Ok, Err, List, Vec}
+use Rattle.std.specs.Prelude.{◌≡◌, Result, Ok, Err, List, Vec}
 use Rattle.disk_defs.specs.Count.{Faults, FailedIn}
 use Rattle.disk_defs.specs.declared.Area.TheVariants.{Image}
 use Rattle.rx_tree.specs.FoundTree.{FoundTree}

@@ -1,9 +1,7 @@
-use Rattle.std.proofs.Common.{Some, None, Ok, refl, ap, sym, ◌∙◌}
+use Rattle.std.proofs.Common.{Some, Ok, ap, sym, ◌∙◌}
 use Rattle.disk_defs.specs.Disk.{told_image}
-use Rattle.image_defs.specs.Ask.{Done}
 use Rattle.rx_tree.specs.declared.volume.FsKind.TheVariants.{HfsPlus}
 use Rattle.volume_defs.specs.Kind.{is_hfs, or_rest, kind_behind_ntfs, kind_behind_hfs}
-use Rattle.first_reader.proofs.Told.{told_all}
 use Rattle.first_reader.proofs.Magics.{behind_look, magic_fits, magic_fails}
 use Rattle.first_reader.proofs.kind.kind_behind_ntfs.Goals as goal
 

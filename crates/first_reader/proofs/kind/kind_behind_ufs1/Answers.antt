@@ -1,4 +1,4 @@
-use Rattle.std.proofs.Common.{Some, None, Ok, refl, ap, sym, ◌∙◌}
+use Rattle.std.proofs.Common.{Some, None, Ok, refl, sym, ◌∙◌}
 use Rattle.disk_defs.specs.Disk.{told_image}
 use Rattle.image_defs.specs.Ask.{Done}
 use Rattle.rx_tree.specs.declared.volume.FsKind.TheVariants.{Ufs2}
