@@ -26,6 +26,7 @@ pub(crate) fn read_superblock<S: Store>(store: &mut S) -> Result<Superblock, Fir
     requires { 66912 ≤ size_of Image (S.state store.old) }
     ensures told { IfSome (told_image (S.state store.old)) (λ image. Gives result (run image first_superblock)) }
     ensures first { IfOk result (λ superblock. is_first_superblock superblock ≡ true) }
+    ensures lean { result ≢ Err FirstReadFault.NoMemory }
     ensures same { S.state store.new ≡ S.state store.old }
     ensures counted { IsFirstCounted result (S.faults store.old) (S.faults store.new) }
 {
@@ -49,6 +50,7 @@ fn read_inode<S: Store>(
     requires first { is_first_superblock superblock.now ≡ true }
     ensures told { IfSome (told_image (S.state store.old)) (λ image. Gives result (run image (first_inode size superblock.now number))) }
     ensures within { OnOk result (is_first_inode size superblock.now number ≡ true) }
+    ensures lean { result ≢ Err FirstReadFault.NoMemory }
     ensures same { S.state store.new ≡ S.state store.old }
     ensures counted { IsFirstCounted result (S.faults store.old) (S.faults store.new) }
 {
@@ -70,6 +72,7 @@ pub(crate) fn read_root<S: Store>(
     ensures told { IfSome (told_image (S.state store.old)) (λ image. Gives result (run image (first_root size superblock.now))) }
     ensures within { OnOk result (is_first_inode size superblock.now 2 ≡ true) }
     ensures root { IfOk result (λ root. is_first_root size superblock.now root ≡ true) }
+    ensures lean { result ≢ Err FirstReadFault.NoMemory }
     ensures same { S.state store.new ≡ S.state store.old }
     ensures counted { IsFirstCounted result (S.faults store.old) (S.faults store.new) }
 {
