@@ -24,8 +24,12 @@ all_claims rules files = flat_map (claims_on rules) files
 abbrev pub planned_at : List Rule → List FileEntry → ℕ → Option (ℕ × ℕ)
 planned_at rules files byte = painted (all_claims rules files) byte
 
+-- whether claims have a byte
+abbrev pub is_painted : List Claim → ℕ → Bool
+is_painted claims byte = is_some (painted claims byte)
+
 abbrev pub is_planned : List Rule → List FileEntry → ℕ → Bool
-is_planned rules files byte = is_some (planned_at rules files byte)
+is_planned rules files byte = is_painted (all_claims rules files) byte
 
 -- the bytes of the image that a part has: those of its pieces, and its slack
 abbrev pub part_ranges : FoundPart → List Range
@@ -43,7 +47,7 @@ touches_planned len planned file = is_some (least_below (λ byte. planned byte &
 abbrev pub lines_for : ListKind → ℕ → FileEntry → List Listed
 lines_for kind rule file = map (λ name. record { kind = kind; rule = rule; path = name }) file.names
 
--- whether claims have a byte
+-- whether claims have any byte
 abbrev pub claim_some : List Claim → Bool
 claim_some claims = list_any (λ claim. nat_lt 0 claim.range.len) claims
 

@@ -11,6 +11,7 @@ use Rattle.range_defs.specs.declared.Claim.{Claim}
 use Rattle.range_defs.specs.declared.TheConstants.{LONGEST_IMAGE, REACH}
 use Rattle.range_defs.specs.Places.{covers, IsLeast, least_below, EndsInReach}
 use Rattle.range_defs.specs.RangeLaws.{EndsBy as RangeEndsBy, covers-past}
+use Rattle.range_defs.specs.AnyByte.{TellsIfAny, same_as_any_below}
 use Rattle.range_defs.specs.LeastLaws.{same_as_least_below}
 use Rattle.range_defs.specs.declared.TheConstants.{REACH}
 use Rattle.range_defs.specs.Claims.{painted, IsFillMap, HaveOneFill}
@@ -31,7 +32,7 @@ use Rattle.rule_defs.specs.declared.Action.{Action}
 use Rattle.rule_defs.specs.declared.Action.TheVariants.{Fill}
 use Rattle.rule_defs.specs.Numbered.{AreNumbered, AreNumberedFrom}
 use Rattle.rule_defs.specs.Settle.{holds, is_plain_file, settling_rule, disk_range, disk_ranges, content_range, content_ranges, fill_of, claimed_ranges, claim_by, claims_by, claims_on}
-use Rattle.plan_defs.specs.Plan.{all_claims, planned_at, is_planned, part_ranges, touched_ranges, touches_planned, lines_of, plan_of, guarded_byte}
+use Rattle.plan_defs.specs.Plan.{all_claims, is_painted, planned_at, is_planned, part_ranges, touched_ranges, touches_planned, lines_of, plan_of, guarded_byte}
 
 -- what holds of all that each element gives holds of all that the list gives
 All-flat_map : {X Y : Type 0} (P : X → Type 0) (Q : Y → Type 0) (f : X → List Y) → ((x : X) → P x → All Q (f x))
@@ -157,17 +158,16 @@ claims-one_fill rules files numbered first second other before inside same_rule 
     let b = filled second other inside in
     a.1 ∙ ap (fill_by rules) same_rule ∙ sym b.1
 
--- the least byte that a set and the bytes of a file share tells whether the file touches the set
-pub touches-by_least : (len : ℕ) (file : FileEntry) (planned touched : List Range) (answer : Option ℕ) → ArePartsWithin len file.parts
-    → ((byte : ℕ) → covers touched byte ≡ covers (touched_ranges file) byte)
-    → IsLeast (λ byte. covers planned byte && covers touched byte) answer
-    → is_some answer ≡ touches_planned len (covers planned) file
-touches-by_least len file planned touched answer within same least =
-    let past : (byte : ℕ) → len ≤ byte → (covers planned byte && covers touched byte) ≡ false =
-    λ byte behind. and_right (covers planned byte) (covers touched byte)
-    (same byte ∙ covers-past len byte (touched_ranges file) (touched_ranges-within len file within) behind) in
-    ap is_some (same_as_least_below (λ byte. covers planned byte && covers touched byte) len answer least past)
-    ∙ ap (λ (touched_set : ℕ → Bool). is_some (least_below (λ byte. covers planned byte && touched_set byte) len)) (fun_ext same)
+-- whether some byte is claimed and a file's tells whether the file touches the claims
+pub touches-by_any : (len : ℕ) (file : FileEntry) (claims : List Claim) (ranges : List Range) (answer : Bool) → ArePartsWithin len file.parts
+    → ranges ≡ touched_ranges file → TellsIfAny (λ byte. is_some (painted claims byte) && covers ranges byte) answer
+    → answer ≡ touches_planned len (is_painted claims) file
+touches-by_any len file claims ranges answer within ranges_are tells =
+    let same : TellsIfAny (λ byte. is_some (painted claims byte) && covers (touched_ranges file) byte) answer =
+    subst (λ (list : List Range). TellsIfAny (λ byte. is_some (painted claims byte) && covers list byte) answer) ranges_are tells in
+    same_as_any_below (λ byte. is_some (painted claims byte) && covers (touched_ranges file) byte) len answer same
+    (λ byte behind. and_right (is_some (painted claims byte)) (covers (touched_ranges file) byte)
+    (covers-past len byte (touched_ranges file) (touched_ranges-within len file within) behind))
 
 -- claims that end where an image does end in reach
 pub claims-in_reach : (end : ℕ) (claims : List Claim) → end ≤ LONGEST_IMAGE → All (EndsBy end) claims
@@ -191,15 +191,14 @@ ranges-within tree rules ranges within kept same =
     (claims-within tree.image_len rules tree.files within.files) behind)
 
 -- the parts of a plan, and that they are the plan
-pub plan-by_parts : (tree : FoundTree) (rules : List Rule) (ranges : List Claim) (planned : List Range) (lines : List Listed)
+pub plan-by_parts : (tree : FoundTree) (rules : List Rule) (ranges : List Claim) (lines : List Listed)
     → IsWithin tree → IsFillMap ranges → ((byte : ℕ) → painted ranges byte ≡ planned_at rules tree.files byte)
-    → ((byte : ℕ) → covers planned byte ≡ is_some (painted ranges byte))
-    → lines ≡ flat_map (lines_of rules tree.image_len (covers planned)) tree.files
+    → lines ≡ flat_map (lines_of rules tree.image_len (is_painted ranges)) tree.files
     → record { image_len = tree.image_len; ranges = ranges; listing = lines } ≡ plan_of tree rules
 unfolding plan_of
-plan-by_parts tree rules ranges planned lines within kept same planned_is lines_are =
+plan-by_parts tree rules ranges lines within kept same lines_are =
     let ranges_are = same_as_longest_claims (planned_at rules tree.files) tree.image_len ranges kept same (ranges-within tree rules ranges within kept same) in
-    let set_is : covers planned ≡ is_planned rules tree.files = fun_ext (λ byte. planned_is byte ∙ ap is_some (same byte)) in
+    let set_is : is_painted ranges ≡ is_planned rules tree.files = fun_ext (λ byte. ap is_some (same byte)) in
     let listing_is : lines ≡ flat_map (lines_of rules tree.image_len (is_planned rules tree.files)) tree.files =
     lines_are ∙ ap (λ (set : ℕ → Bool). flat_map (lines_of rules tree.image_len set) tree.files) set_is in
     cc

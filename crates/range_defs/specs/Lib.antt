@@ -3,3 +3,4 @@ pub mod Claims
 pub mod RangeLaws
 pub mod ClaimLaws
 pub mod LeastLaws
+pub mod AnyByte

@@ -84,7 +84,7 @@ pub fn make_plan<S: Store>(
     if let Some((at, rule)) = guarded(&tree.guard, &ranges, &planned) {
         return Err(PlanFault::MeetsGuard { at, rule });
     }
-    let lines = listing_of(alloc, tree, &listed, &planned)?;
+    let lines = listing_of(alloc, tree, &listed, &ranges)?;
     Ok(Plan {
         image_len: tree.image_len,
         ranges,

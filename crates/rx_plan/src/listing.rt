@@ -1,14 +1,16 @@
 //! Which names of files are listed.
-ghost use Rattle.std.specs.Prelude.{◌≡◌, ◌++◌, ℕ, List, IfOk, length, map};
+ghost use Rattle.std.specs.Prelude.{◌≡◌, ◌++◌, ◌&&◌, ℕ, All, List, IfOk, is_some, length, map};
 ghost use Rattle.std.specs.List.{flat_map};
-ghost use Rattle.range_defs.specs.Places.{covers};
+ghost use Rattle.range_defs.specs.AnyByte.{TellsIfAny};
+ghost use Rattle.range_defs.specs.Claims.{painted};
+ghost use Rattle.range_defs.specs.Places.{covers, EndsInReach};
 ghost use Rattle.range_defs.specs.declared.TheConstants.{REACH};
 ghost use Rattle.rx_tree.specs.Within.{ArePartsWithin};
 ghost use Rattle.rule_defs.specs.declared.Rule.{Rule as RuleValue};
-ghost use Rattle.plan_defs.specs.Plan.{part_ranges, touches_planned, file_lines, listed_as, lines_of};
+ghost use Rattle.plan_defs.specs.Plan.{is_painted, part_ranges, touches_planned, file_lines, listed_as, lines_of};
 
 use crate::settling::push_disk_ranges;
-use rx_ranges::{ListKind, Listed, NoMemory, Range, RangeList, Text};
+use rx_ranges::{FillMap, ListKind, Listed, NoMemory, Range, Text};
 use rx_tree::{FileEntry, Part, Tree};
 use std::alloc::Global;
 
@@ -23,16 +25,28 @@ fn push_touched_ranges(ranges: &mut Vec<Range>, parts: &[Part]) -> Result<(), No
     Ok(())
 }
 
-/// Whether a file touches a byte of a set.
-fn touches(alloc: Global, planned: &RangeList, file: &FileEntry) -> Result<bool, NoMemory>
+/// Whether a byte of one of these ranges is filled.
+fn any_meets(fills: &FillMap, ranges: &[Range]) -> bool
+    requires { All EndsInReach ranges.now }
+    ensures { TellsIfAny (λ byte. is_some (painted fills.now byte) && covers ranges.now byte) result }
+{
+    for range in ranges {
+        if fills.meets(*range) {
+            return true;
+        }
+    }
+    false
+}
+
+/// Whether a file touches a filled byte.
+fn touches(alloc: Global, fills: &FillMap, file: &FileEntry) -> Result<bool, NoMemory>
     requires { ArePartsWithin REACH file.now.parts }
     ensures { IfOk result (λ touches. (len : ℕ) → ArePartsWithin len file.now.parts
-        → touches ≡ touches_planned len (covers planned.now) file.now) }
+        → touches ≡ touches_planned len (is_painted fills.now) file.now) }
 {
     let mut ranges = Vec::new(alloc);
     push_touched_ranges(&mut ranges, file.parts.items())?;
-    let touched = RangeList::from_ranges(alloc, ranges)?;
-    Ok(planned.meets(&touched).is_some())
+    Ok(any_meets(fills, &ranges))
 }
 
 /// Appends a line for each name of a file.
@@ -61,17 +75,17 @@ fn push_lines_of(
     alloc: Global,
     lines: &mut Vec<Listed>,
     listed: Option<u32>,
-    planned: &RangeList,
+    fills: &FillMap,
     file: &FileEntry,
 ) -> Result<(), NoMemory>
     requires { ArePartsWithin REACH file.now.parts }
     ensures { IfOk result (λ _. (len : ℕ) → ArePartsWithin len file.now.parts
-        → lines.new.items ≡ lines.old.items ++ file_lines len (covers planned.now) listed file.now) }
+        → lines.new.items ≡ lines.old.items ++ file_lines len (is_painted fills.now) listed file.now) }
 {
     if let Some(rule) = listed {
         return push_lines(alloc, lines, ListKind::File, rule, file.names.items());
     }
-    if touches(alloc, planned, file)? {
+    if touches(alloc, fills, file)? {
         return push_lines(alloc, lines, ListKind::Alias, 0, file.names.items());
     }
     Ok(())
@@ -82,16 +96,16 @@ pub(crate) fn listing_of(
     alloc: Global,
     tree: &Tree,
     listed: &[Option<u32>],
-    planned: &RangeList,
+    fills: &FillMap,
 ) -> Result<Vec<Listed>, NoMemory>
     requires { length listed.now ≡ length tree.now.files }
     ensures { IfOk result (λ lines. (rules : List RuleValue) → listed.now ≡ map (listed_as rules) tree.now.files
-        → lines.items ≡ flat_map (lines_of rules tree.now.image_len (covers planned.now)) tree.now.files) }
+        → lines.items ≡ flat_map (lines_of rules tree.now.image_len (is_painted fills.now)) tree.now.files) }
 {
     let files = tree.files.items();
     let mut lines = Vec::new(alloc);
     for i in 0..files.len() {
-        push_lines_of(alloc, &mut lines, listed[i], planned, &files[i])?;
+        push_lines_of(alloc, &mut lines, listed[i], fills, &files[i])?;
     }
     Ok(lines)
 }

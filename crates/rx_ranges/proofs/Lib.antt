@@ -8,3 +8,4 @@ pub mod OverlaySteps
 pub mod Joining
 pub mod JoiningSteps
 pub mod Filling
+pub mod Touching

@@ -1,12 +1,13 @@
 //! Which rule fills which byte, as a sorted list of claims.
-ghost use Rattle.std.specs.Prelude.{◌≡◌, ◌<◌, ◌≤◌, ℕ, All, IfOk, length};
+ghost use Rattle.std.specs.Prelude.{◌≡◌, ◌<◌, ◌≤◌, ◌&&◌, ℕ, All, IfOk, is_some, length};
 ghost use Rattle.std.specs.List.{AllWithin};
 ghost use Rattle.range_defs.specs.Claims.{painted, IsFillMap, HaveOneFill};
-ghost use Rattle.range_defs.specs.Places.{EndsInReach};
+ghost use Rattle.range_defs.specs.AnyByte.{TellsIfAny};
+ghost use Rattle.range_defs.specs.Places.{EndsInReach, in_range};
 
 use crate::laying::{joined, with_claim};
 use crate::text::NoMemory;
-use range_defs::Claim;
+use range_defs::{Claim, Range};
 use std::alloc::Global;
 use std::marker::Model;
 
@@ -62,6 +63,22 @@ impl FillMap {
         } else {
             None
         }
+    }
+
+    /// Whether a byte of a range is claimed.
+    pub fn meets(&self, range: Range) -> bool
+        requires { EndsInReach range }
+        ensures { TellsIfAny (λ byte. is_some (painted self.now byte) && in_range range byte) result }
+    {
+        if range.len == 0 {
+            return false;
+        }
+        let begun = begun_by(&self.claims, range.at + (range.len - 1));
+        if begun == 0 {
+            return false;
+        }
+        let last = self.claims[begun - 1];
+        range.at.saturating_sub(last.range.at) < last.range.len
     }
 
     /// The map with these claims.

@@ -51,8 +51,8 @@ returns-clause-plan g c =
     let listed_are = c.deref.ensures.value ∙ c.in_ok-claims.ensures.listed ∙ ap (λ (list : List Rule). map (listed_as list) c.items-2.result.now) c.items.ensures.items
     ∙ ap (map (listed_as rules)) files_are in
     ap (λ (t : FoundTree). record { image_len = t.image_len; ranges = c.in_ok-ranges.ranges; listing = c.from_vec.result }) c.tree.view_is
-    ∙ plan-by_parts tree rules c.in_ok-ranges.ranges c.in_ok-planned.planned c.from_vec.result within c.in_ok-ranges.ensures.kept
-    (λ byte. c.in_ok-ranges.ensures.bytes byte ∙ ap (λ claims. painted claims byte) claims_are) c.in_ok-planned.ensures
+    ∙ plan-by_parts tree rules c.in_ok-ranges.ranges c.from_vec.result within c.in_ok-ranges.ensures.kept
+    (λ byte. c.in_ok-ranges.ensures.bytes byte ∙ ap (λ claims. painted claims byte) claims_are)
     (c.from_vec.ensures ∙ c.in_ok-lines.ensures rules listed_are)
 
 pub returns-clause-unguarded : goal.returns-clause-unguarded

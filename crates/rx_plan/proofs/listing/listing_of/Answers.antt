@@ -1,5 +1,5 @@
 use Rattle.std.proofs.Common.{◌≡◌, ◌∙◌, ap, subst}
-use Rattle.range_defs.specs.Places.{covers}
+use Rattle.plan_defs.specs.Plan.{is_painted}
 use Rattle.rx_tree.specs.FoundTree.{FoundTree}
 use Rattle.rx_tree.specs.Within.{IsWithin}
 use Rattle.plan_defs.specs.PlanLaws.{file-within, file-in_reach}
@@ -20,6 +20,6 @@ loop-i-preserved c = λ rules listed_are.
     let file = c.index-files-i.result in
     let within : IsWithin tree = subst (λ (t : FoundTree). IsWithin t) c.tree.view_is c.tree.invariant in
     let files_are : files ≡ tree.files = c.items-files.ensures.items ∙ ap (λ (t : FoundTree). t.files) c.tree.view_is in
-    lines-more rules files c.args.listed.now c.loop-i.i tree.image_len (covers c.args.planned.now) file c.loop-i.lines.items _
+    lines-more rules files c.args.listed.now c.loop-i.i tree.image_len (is_painted c.args.fills.now) file c.loop-i.lines.items _
     c.loop-i-test.true listed_are c.index-files-i.is (c.loop-i.invariant rules listed_are)
     (c.in_ok-push_lines_of.ensures tree.image_len (file-within tree files c.loop-i.i file within files_are c.loop-i-test.true c.index-files-i.is))
