@@ -40,7 +40,9 @@ pub(crate) fn status_of_planning(fault: PlanFault) -> Status
     ensures { result ≡ status_of_planning fault }
 {
     match fault {
-        PlanFault::MeetsGuard { at, rule } => Status::PlanRefused(PlanRefusal::MeetsGuard(at, rule)),
+        PlanFault::MeetsGuard { at, rule } => Status::PlanRefused(PlanRefusal::MeetsGuard(
+            at, rule,
+        )),
         PlanFault::NoMemory => Status::NoMemory,
     }
 }

@@ -2,6 +2,8 @@
 #![tactic(auto)]
 
 #[cfg(test)]
+mod journal;
+#[cfg(test)]
 mod paths;
 #[cfg(test)]
 mod plan;

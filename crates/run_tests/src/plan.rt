@@ -9,9 +9,9 @@ use rx_store::{MemSink, MemSource, MemStore};
 use std::alloc::{AllocError, Global};
 use std::test::Fail;
 
-const RULE: &[u8] = b"FILENAME \"a\" FILL 0x58";
+pub(crate) const RULE: &[u8] = b"FILENAME \"a\" FILL 0x58";
 
-const REPORT: &[u8] =
+pub(crate) const REPORT: &[u8] =
     b"redaction planned\nimage 262144\nranges 1\nbytes 3\nRANGE 86016 3 1 0x58\nFILE 1 /a\n";
 
 /// What is in the way of a run: the calls of the store that fail, the read of the source that fails, and the sink's room.
@@ -28,7 +28,7 @@ const NO_TROUBLE: Troubles = Troubles {
     room: 4096,
 };
 
-fn words_of(alloc: Global, words: &[&str]) -> Result<Vec<String>, AllocError> {
+pub(crate) fn words_of(alloc: Global, words: &[&str]) -> Result<Vec<String>, AllocError> {
     let mut all = Vec::new(alloc);
     for word in words {
         all.push(String::from_str(alloc, word)?)?;
