@@ -14,7 +14,7 @@ use Rattle.rx_plan.proofs.make_plan.Goals as goal
 
 pub first_wins-requires-clause-reach : goal.first_wins-requires-clause-reach
 first_wins-requires-clause-reach g c =
-    let within : IsWithin c.args.tree.now = subst (λ (t : FoundTree). IsWithin t) c.tree.view_is c.tree.invariant in
+    let within : IsWithin c.args.tree.now = subst (λ (t : FoundTree). IsWithin t) c.tree.view_is c.tree.invariant.0 in
     all_claims-in_reach c.args.tree.now c.items.result.now c.items-2.result.now _ within
     (c.items-2.ensures.items ∙ ap (λ (t : FoundTree). t.files) c.tree.view_is) c.in_ok-claims.ensures.claims
 
@@ -27,7 +27,7 @@ pub returns-in-Some-clause-guarded : goal.returns-in-Some-clause-guarded
 returns-in-Some-clause-guarded g c = λ at rule is.
     let tree = c.args.tree.now in
     let rules = c.args.rules.now in
-    let within : IsWithin tree = subst (λ (t : FoundTree). IsWithin t) c.tree.view_is c.tree.invariant in
+    let within : IsWithin tree = subst (λ (t : FoundTree). IsWithin t) c.tree.view_is c.tree.invariant.0 in
     let claims_are = c.in_ok-claims.ensures.claims ∙ ap (λ (list : List Rule). all_claims list c.items-2.result.now) c.items.ensures.items
     ∙ ap (all_claims rules) (c.items-2.ensures.items ∙ ap (λ (t : FoundTree). t.files) c.tree.view_is) in
     let fills = c.in_ok-ranges.ranges in
@@ -44,7 +44,7 @@ pub returns-clause-plan : goal.returns-clause-plan
 returns-clause-plan g c =
     let tree = c.args.tree.now in
     let rules = c.args.rules.now in
-    let within : IsWithin tree = subst (λ (t : FoundTree). IsWithin t) c.tree.view_is c.tree.invariant in
+    let within : IsWithin tree = subst (λ (t : FoundTree). IsWithin t) c.tree.view_is c.tree.invariant.0 in
     let files_are = c.items-2.ensures.items ∙ ap (λ (t : FoundTree). t.files) c.tree.view_is in
     let claims_are = c.in_ok-claims.ensures.claims ∙ ap (λ (list : List Rule). all_claims list c.items-2.result.now) c.items.ensures.items
     ∙ ap (all_claims rules) files_are in
@@ -59,7 +59,7 @@ pub returns-clause-unguarded : goal.returns-clause-unguarded
 returns-clause-unguarded g c =
     let tree = c.args.tree.now in
     let rules = c.args.rules.now in
-    let within : IsWithin tree = subst (λ (t : FoundTree). IsWithin t) c.tree.view_is c.tree.invariant in
+    let within : IsWithin tree = subst (λ (t : FoundTree). IsWithin t) c.tree.view_is c.tree.invariant.0 in
     let claims_are = c.in_ok-claims.ensures.claims ∙ ap (λ (list : List Rule). all_claims list c.items-2.result.now) c.items.ensures.items
     ∙ ap (all_claims rules) (c.items-2.ensures.items ∙ ap (λ (t : FoundTree). t.files) c.tree.view_is) in
     let fills = c.in_ok-ranges.ranges in

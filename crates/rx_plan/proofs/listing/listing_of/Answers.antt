@@ -9,7 +9,7 @@ use Rattle.rx_plan.proofs.listing.listing_of.Goals as goal
 pub push_lines_of-requires : goal.push_lines_of-requires
 push_lines_of-requires c =
     let tree = c.args.tree.now in
-    let within : IsWithin tree = subst (λ (t : FoundTree). IsWithin t) c.tree.view_is c.tree.invariant in
+    let within : IsWithin tree = subst (λ (t : FoundTree). IsWithin t) c.tree.view_is c.tree.invariant.0 in
     let files_are : c.items-files.result.now ≡ tree.files = c.items-files.ensures.items ∙ ap (λ (t : FoundTree). t.files) c.tree.view_is in
     file-in_reach tree c.items-files.result.now c.loop-i.i c.index-files-i.result within files_are c.loop-i-test.true c.index-files-i.is
 
@@ -18,7 +18,7 @@ loop-i-preserved c = λ rules listed_are.
     let tree = c.args.tree.now in
     let files = c.items-files.result.now in
     let file = c.index-files-i.result in
-    let within : IsWithin tree = subst (λ (t : FoundTree). IsWithin t) c.tree.view_is c.tree.invariant in
+    let within : IsWithin tree = subst (λ (t : FoundTree). IsWithin t) c.tree.view_is c.tree.invariant.0 in
     let files_are : files ≡ tree.files = c.items-files.ensures.items ∙ ap (λ (t : FoundTree). t.files) c.tree.view_is in
     lines-more rules files c.args.listed.now c.loop-i.i tree.image_len (is_painted c.args.fills.now) file c.loop-i.lines.items _
     c.loop-i-test.true listed_are c.index-files-i.is (c.loop-i.invariant rules listed_are)
