@@ -20,13 +20,17 @@ fn image(rt: &HostRuntime) -> Result<Vec<u8>, Fail> {
 }
 
 /// What is read of the volume behind the first 512 bytes, where one byte of its boot sector is another.
-fn read_with(rt: &HostRuntime, place: usize, byte: u8) -> Result<Result<Boot, ReadFault>, Fail> {
+fn read_with(rt: &HostRuntime, place: usize, byte: u8) -> Result<Result<Boot, ReadFault>, Fail>
+    requires { place < 512 }
+{
     let mut bytes = image(rt)?;
-    if place < 512 {
-        bytes[512 + place] = byte;
+    if let Some(there) = bytes.get_mut(512 + place) {
+        *there = byte;
     }
     let mut store = MemStore::new(rt.alloc(), bytes, Vec::new(rt.alloc()), 0, 0, 0)?;
-    Ok(read_boot(&mut store, 512, 7680))
+    let size = store.len(Area::Image).expect(rt, "the size of the image");
+    assert!(rt; size > 512);
+    Ok(read_boot(&mut store, 512, size - 512))
 }
 
 #[test]

@@ -10,6 +10,7 @@ use Rattle.fault_defs.specs.declared.Refusal.{Refusal}
 use Rattle.ntfs_volume_defs.specs.Slots.{Mft, Slot, Empty, Unused, Used, slots, slot_of, is_folder}
 use Rattle.ntfs_volume_defs.specs.Segments.{Held}
 use Rattle.ntfs_volume_defs.specs.Names.{FoundName, file_names}
+use Rattle.ntfs_volume_defs.specs.Times.{FoundTimes, times_of}
 use Rattle.ntfs_volume_defs.specs.Parts.{parts_of}
 use Rattle.ntfs_volume_defs.specs.Lists.{Entry, ListContent, attributes_in, list_of, list_content, entries_of, named_attribute}
 
@@ -59,6 +60,7 @@ pub record FoundFile : Type 0 where
   pub links : ℕ
   pub folder : Bool
   pub names : List FoundName
+  pub times : Option FoundTimes
   pub parts : List FoundPart
   pub contents : List HeldContent
   pub lists : List Range
@@ -70,6 +72,7 @@ file_with number base found names parts = record {
   links = base.header.links;
   folder = is_folder base.header;
   names = names;
+  times = times_of found.attributes;
   parts = parts;
   contents = contents_in found.attributes;
   lists = found.lists;

@@ -5,6 +5,7 @@ pub mod Segments
 pub mod Lists
 pub mod Mft
 pub mod Names
+pub mod Times
 pub mod Parts
 pub mod Files
 pub mod Paths
