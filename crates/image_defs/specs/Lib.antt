@@ -6,3 +6,4 @@ pub mod Guard
 pub mod Through
 pub mod Via
 pub mod ViaLaws
+pub mod Standing
