@@ -1,4 +1,6 @@
 //! Boot sectors that are worked out by hand.
+ghost use Rattle.std.specs.Prelude.{◌<◌};
+
 use super::*;
 use rx_store::{MemStore, Sort, What};
 use std::test::Fail;
@@ -28,9 +30,10 @@ fn read_with(rt: &HostRuntime, place: usize, byte: u8) -> Result<Result<Boot, Re
         *there = byte;
     }
     let mut store = MemStore::new(rt.alloc(), bytes, Vec::new(rt.alloc()), 0, 0, 0)?;
-    let size = store.len(Area::Image).expect(rt, "the size of the image");
-    assert!(rt; size > 512);
-    Ok(read_boot(&mut store, 512, size - 512))
+    match store.len(Area::Image) {
+        Ok(size) if size > 512 => Ok(read_boot(&mut store, 512, size - 512)),
+        _ => Ok(Err(ReadFault::Device)),
+    }
 }
 
 #[test]
