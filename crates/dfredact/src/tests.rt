@@ -55,7 +55,11 @@ fn small_image(alloc: Global) -> Result<Vec<u8>, AllocError> {
 fn place(rt: &HostRuntime, name: &str) -> io::Result<String> {
     let id = process::id(rt.process());
     let name = format!(in rt.alloc(); "dfredact-main-{id}-{name}")?;
-    Ok(env::temp_dir(rt)?.join(rt.alloc(), name.as_str())?.into_string())
+    Ok(
+        env::temp_dir(rt)?
+            .join(rt.alloc(), name.as_str())?
+            .into_string(),
+    )
 }
 
 /// What the program answers to these words, with its answer to a file.
@@ -77,14 +81,46 @@ fn the_words_name_the_files(rt: HostRuntime) -> Result<(), Fail> {
     fs::write(&rt, &image, &small_image(rt.alloc())?)?;
     fs::write(&rt, &rules, "FILENAME \"a\" FILL 0x58\n")?;
     let rows = [
-        (["plan", image.as_str(), rules.as_str()], out.as_str(), Status::Done),
-        (["plan", none.as_str(), rules.as_str()], out.as_str(), Status::DeviceFault),
-        (["plan", folder.as_str(), rules.as_str()], out.as_str(), Status::DeviceFault),
-        (["plan", image.as_str(), none.as_str()], out.as_str(), Status::SourceFault),
-        (["plan", image.as_str(), folder.as_str()], out.as_str(), Status::SourceFault),
-        (["plan", none.as_str(), none.as_str()], out.as_str(), Status::SourceFault),
-        (["plan", image.as_str(), rules.as_str()], "/dev/full", Status::SinkFault),
-        (["plans", image.as_str(), rules.as_str()], out.as_str(), Status::Usage),
+        (
+            ["plan", image.as_str(), rules.as_str()],
+            out.as_str(),
+            Status::Done,
+        ),
+        (
+            ["plan", none.as_str(), rules.as_str()],
+            out.as_str(),
+            Status::DeviceFault,
+        ),
+        (
+            ["plan", folder.as_str(), rules.as_str()],
+            out.as_str(),
+            Status::DeviceFault,
+        ),
+        (
+            ["plan", image.as_str(), none.as_str()],
+            out.as_str(),
+            Status::SourceFault,
+        ),
+        (
+            ["plan", image.as_str(), folder.as_str()],
+            out.as_str(),
+            Status::SourceFault,
+        ),
+        (
+            ["plan", none.as_str(), none.as_str()],
+            out.as_str(),
+            Status::SourceFault,
+        ),
+        (
+            ["plan", image.as_str(), rules.as_str()],
+            "/dev/full",
+            Status::SinkFault,
+        ),
+        (
+            ["plans", image.as_str(), rules.as_str()],
+            out.as_str(),
+            Status::Usage,
+        ),
     ];
     for (i, (words, out, want)) in rows.into_iter().enumerate() {
         let status = status_of(&rt, words, out)?;

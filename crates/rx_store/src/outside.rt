@@ -1,4 +1,8 @@
 //! One call on what std reads or writes, what it came to, and what is counted with it. A count rises nowhere else.
+//!
+//! Std's contracts don't say when a call fails. So each trait here has a relation of what a call answered, which any
+//! implementation may give a meaning: what is proved of a call holds under each meaning, and so speaks of the very answer
+//! of exactly one call. What is left to trust is that the bodies under the traits make the calls that they name.
 ghost use Rattle.std.specs.Prelude.{◌≡◌, ◌<◌, ◌≤◌, ℕ, Result, length, false, is_none, nat_lt, IfOk, IsErr, IsTrue, OnErr, true, ⊤};
 ghost use Rattle.disk_defs.specs.Count.{IsCounted};
 ghost use Rattle.std.specs.declared.io.Error.{Error};
