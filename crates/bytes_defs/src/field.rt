@@ -1,5 +1,5 @@
 //! Numbers at places of a slice of bytes.
-#![tactic(auto, using(crate::specs::NumberLaws::field_reads))]
+#![tactic(auto, using(crate::proofs::NumberLaws::field_reads))]
 
 ghost use Rattle.std.specs.Prelude.{◌≡◌, ◌+◌, ◌≤◌, length};
 ghost use Rattle.std.specs.Int.{w32, w64};

@@ -1,5 +1,4 @@
 pub mod Disk
 pub mod Count
 pub mod Stream
-pub mod StreamLaws
 pub mod Memory

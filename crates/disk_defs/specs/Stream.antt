@@ -22,7 +22,3 @@ TookPrefixOf before after bytes = (count : ℕ) × (count ≤ length bytes) × (
 -- some first bytes of what was still to come have come
 abbrev pub IsPartlyRead : Option (List ℕ) → Option (List ℕ) → Type 0
 IsPartlyRead before after = (count : ℕ) × (after ≡ rest_after before count)
-
--- a text and what is to come after it are what was to come before
-abbrev pub ReadSoFar : Option (List ℕ) → Option (List ℕ) → List ℕ → Type 0
-ReadSoFar before after text = before ≡ option_map (λ rest. text ++ rest) after

@@ -1,7 +1,7 @@
 -- The entries of a directory that lead to files, as a walk over its content finds them.
 use Rattle.std.proofs.Common.{◌≡◌, ℕ, ◌+◌, ◌%◌, ◌<◌, ◌≤◌, Bool, true, false, if◌then◌else◌, Ok, Err, List, [], ◌∷◌, ◌++◌, length, refl, sym, ap, subst, ◌∙◌, append-nil, arith}
 use Rattle.ufs_defs.specs.Directory.{Entry, is_entry, entry_of, entries_of, record_length, leads_on, leading_entries}
-use Rattle.ufs_defs.specs.Entries.{IsWalkedTo, walk_starts, walk_goes_on, walk_ends, walk_stops, entry-len, entry-inside}
+use Rattle.ufs_defs.proofs.Entries.{IsWalkedTo, walk_starts, walk_goes_on, walk_ends, walk_stops, entry-len, entry-inside}
 use Rattle.volume_defs.specs.FirstForm.{NotFirstForm, listed}
 
 leading_entries-append : (found : List Entry) (entry : Entry) → leading_entries (found ++ entry ∷ []) ≡ leading_entries found ++ leading_entries (entry ∷ [])

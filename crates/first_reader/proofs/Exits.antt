@@ -11,7 +11,8 @@ use Rattle.ufs_defs.specs.declared.superblock.Superblock.{Superblock}
 use Rattle.ufs_defs.specs.declared.inode.Inode.{Inode}
 use Rattle.volume_defs.specs.FirstForm.{NotFirstForm, is_first_length, is_first_inode, is_first_entry, first_kind, first_superblock, first_root, first_file, listed, named_inodes, root_file}
 use Rattle.volume_defs.specs.FirstTree.{first_tree, tree_of}
-use Rattle.volume_defs.specs.FirstRanges.{IsVolume, first_ranges, found_tree, no_length_tree, no_kind_tree, no_superblock_tree, no_root_tree, no_entries_tree, bad_entry_tree, no_file_tree}
+use Rattle.volume_defs.specs.FirstRanges.{IsVolume, first_ranges}
+use Rattle.volume_defs.proofs.FirstRanges.{found_tree, no_length_tree, no_kind_tree, no_superblock_tree, no_root_tree, no_entries_tree, bad_entry_tree, no_file_tree}
 use Rattle.first_reader.specs.Gives.{Gives, Refuses}
 use Rattle.first_reader.specs.declared.fault.FirstReadFault.{FirstReadFault}
 use Rattle.first_reader.proofs.Told.{ReadsContent, HasEntries, told_then, gives_refusal, entries_read}

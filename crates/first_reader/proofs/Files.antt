@@ -7,9 +7,10 @@ use Rattle.rx_tree.specs.declared.file.FileEntry.{FileEntry}
 use Rattle.ufs_defs.specs.Directory.{Entry}
 use Rattle.ufs_defs.specs.declared.superblock.Superblock.{Superblock}
 use Rattle.ufs_defs.specs.declared.inode.Inode.{Inode}
-use Rattle.volume_defs.specs.EachRun.{IsRunTo, each_goes_on_at, each_stops_at}
+use Rattle.volume_defs.proofs.EachRun.{IsRunTo, each_goes_on_at, each_stops_at}
 use Rattle.volume_defs.specs.FirstForm.{FirstFault, NotFirstForm, first_file, is_first_inode, is_first_file, named_file}
-use Rattle.volume_defs.specs.FoundFiles.{IsFileOf, AreFilesOf, files_of_push_at}
+use Rattle.volume_defs.specs.FoundFiles.{IsFileOf, AreFilesOf}
+use Rattle.volume_defs.proofs.FoundFiles.{files_of_push_at}
 use Rattle.first_reader.specs.Gives.{Refuses, GivesItems}
 use Rattle.first_reader.specs.declared.fault.FirstReadFault.{FirstReadFault}
 use Rattle.first_reader.proofs.Told.{told_then, refuses_map}

@@ -13,10 +13,10 @@ use Rattle.std.proofs.lemmas.List.Folds.{list_all_at}
 use Rattle.std.proofs.lemmas.List.Sorted.{IsPermutation-map}
 use Rattle.ufs_defs.specs.Directory.{Entry}
 use Rattle.order_defs.specs.Sorted.{distinct, rising_numbers}
-use Rattle.order_defs.specs.DistinctLaws.{distinct_push}
-use Rattle.order_defs.specs.SortedLaws.{sorted_law}
+use Rattle.order_defs.proofs.DistinctLaws.{distinct_push}
+use Rattle.order_defs.proofs.SortedLaws.{sorted_law}
 use Rattle.volume_defs.specs.FirstForm.{is_first_name, is_first_entry, paths_of, names_of, named_inodes}
-use Rattle.volume_defs.specs.FirstKept.{both_hold}
+use Rattle.volume_defs.proofs.FirstKept.{both_hold}
 
 -- ---- the numbers
 

@@ -14,12 +14,13 @@ use Rattle.piece_defs.specs.Covering.{goes_on}
 use Rattle.ufs_defs.specs.Inode.{is_directory, is_file}
 use Rattle.piece_defs.specs.Joined.{grown}
 use Rattle.ufs_defs.specs.Blocks.{block_size, block_count, block_piece, content_slack}
-use Rattle.ufs_defs.specs.BlockLaws.{AreBlocksWithin, block_begins, AreJoinedTo, joining_grows, joining_begins_anew}
-use Rattle.ufs_defs.specs.SlackLaws.{content_slack_within}
+use Rattle.ufs_defs.specs.BlockLaws.{AreBlocksWithin}
+use Rattle.ufs_defs.proofs.BlockLaws.{block_begins, AreJoinedTo, joining_grows, joining_begins_anew}
+use Rattle.ufs_defs.proofs.SlackLaws.{content_slack_within}
 use Rattle.ufs_defs.specs.declared.superblock.Superblock.{Superblock}
 use Rattle.ufs_defs.specs.declared.inode.Inode.{Inode}
 use Rattle.volume_defs.specs.FirstForm.{is_first_superblock, is_first_root, is_first_file, is_plain, has_block, has_blocks}
-use Rattle.volume_defs.specs.FirstKept.{both_hold, first_superblock_sound, first_block_size, has_block_within, has_blocks_each, has_blocks_none, has_blocks_next}
+use Rattle.volume_defs.proofs.FirstKept.{both_hold, first_superblock_sound, first_block_size, has_block_within, has_blocks_each, has_blocks_none, has_blocks_next}
 use Rattle.first_reader.specs.Content.{has_content}
 
 -- there are inodes in a group and in a block

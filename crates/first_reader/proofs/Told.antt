@@ -11,7 +11,7 @@ use Rattle.ufs_defs.specs.declared.inode.Inode.{Inode}
 use Rattle.volume_defs.specs.FirstForm.{FirstFault, NotFirstForm, is_first_superblock, is_first_inode, first_superblock, first_inode, first_root, first_entries, listed}
 use Rattle.ufs_defs.specs.Directory.{Entry, entries_of}
 use Rattle.ufs_defs.specs.Blocks.{block_place}
-use Rattle.volume_defs.specs.FirstReader.{run_first_superblock, run_first_superblock_fault, run_first_inode, run_first_entries}
+use Rattle.volume_defs.proofs.FirstReader.{run_first_superblock, run_first_superblock_fault, run_first_inode, run_first_entries}
 use Rattle.first_reader.specs.Gives.{Gives, Refuses}
 use Rattle.first_reader.specs.declared.fault.FirstReadFault.{FirstReadFault}
 use Rattle.first_reader.specs.declared.fault.FirstReadFault.TheVariants.{Device, NoMemory, OtherForm}

@@ -7,14 +7,14 @@ use Rattle.std.proofs.lemmas.List.Elements.{All-cons, All-nil}
 use Rattle.std.proofs.lemmas.Str.{IsUtf8-from_ascii}
 use Rattle.range_defs.specs.declared.Range.{Range}
 use Rattle.range_defs.specs.Places.{covers, IsRangeList, longest_ranges}
-use Rattle.range_defs.specs.RangeLaws.{same_range_list, same_as_longest_ranges, ends_where_covered, covers-past}
+use Rattle.range_defs.proofs.RangeLaws.{same_range_list, same_as_longest_ranges, ends_where_covered, covers-past}
 use Rattle.rx_ranges.specs.Path.{IsPath}
 use Rattle.rx_tree.specs.FoundTree.{FoundTree}
 use Rattle.rx_tree.specs.Within.{AreRangesWithin, AreFilesWithin, IsWithin}
 use Rattle.rx_tree.specs.declared.file.FileEntry.{FileEntry}
 use Rattle.rx_tree.specs.declared.volume.Volume.{Volume}
 use Rattle.volume_defs.specs.FirstForm.{is_first_name, root_path}
-use Rattle.volume_defs.specs.FoundFiles.{root_names_are_paths}
+use Rattle.volume_defs.proofs.FoundFiles.{root_names_are_paths}
 use Rattle.volume_defs.specs.FirstTree.{whole_volume, tree_of}
 
 first_name-ascii : (name : List ℕ) → is_first_name name ≡ true → IsAscii name

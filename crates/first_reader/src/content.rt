@@ -85,7 +85,7 @@ fn pieces_of(
 }
 
 /// What the last block of a content has behind its last byte.
-#[tactic(auto, using(crate::proofs::Reading::content_has_block, crate::proofs::Reading::block_below_twelve, crate::proofs::Reading::last_block, ufs_defs::specs::SlackLaws::content_slack_none, ufs_defs::specs::SlackLaws::content_slack_some))]
+#[tactic(auto, using(crate::proofs::Reading::content_has_block, crate::proofs::Reading::block_below_twelve, crate::proofs::Reading::last_block, ufs_defs::proofs::SlackLaws::content_slack_none, ufs_defs::proofs::SlackLaws::content_slack_some))]
 fn ranges_behind(
     alloc: Global,
     size: u64,
@@ -110,7 +110,7 @@ fn ranges_behind(
 }
 
 /// The slack of a content.
-#[tactic(auto, using(volume_defs::specs::FirstKept::first_block_size, crate::proofs::Reading::slack_in_reach, ufs_defs::specs::SlackLaws::list_is_slack))]
+#[tactic(auto, using(volume_defs::proofs::FirstKept::first_block_size, crate::proofs::Reading::slack_in_reach, ufs_defs::proofs::SlackLaws::list_is_slack))]
 fn slack_of(
     alloc: Global,
     size: u64,
@@ -127,7 +127,7 @@ fn slack_of(
 }
 
 /// The content of a file of at most twelve blocks.
-#[tactic(auto, using(volume_defs::specs::FirstKept::first_block_size, ufs_defs::specs::BlockLaws::content_pieces_cover, ufs_defs::specs::BlockLaws::content_pieces_plain, ufs_defs::specs::SlackLaws::content_is))]
+#[tactic(auto, using(volume_defs::proofs::FirstKept::first_block_size, ufs_defs::proofs::BlockLaws::content_pieces_cover, ufs_defs::proofs::BlockLaws::content_pieces_plain, ufs_defs::proofs::SlackLaws::content_is))]
 pub(crate) fn content_of(
     alloc: Global,
     size: u64,

@@ -41,7 +41,7 @@ fn part_of(bytes: &[u8], at: usize, len: usize) -> &[u8]
 }
 
 /// The entry at a place.
-#[tactic(auto, using(crate::proofs::Entries::entry_head, ufs_defs::specs::Entries::entry_laws))]
+#[tactic(auto, using(crate::proofs::Entries::entry_head, ufs_defs::proofs::Entries::entry_laws))]
 fn entry_at(content: &[u8], at: usize) -> Entry<'_>
     requires whole { length content.now % 512 ≡ 0 }
     requires inside { at < length content.now }

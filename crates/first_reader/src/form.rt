@@ -29,7 +29,7 @@ pub(crate) fn inode_within(size: u64, superblock: &Superblock, number: u32) -> b
 }
 
 /// The place of the inode of a number that the volume has and that lies in the image.
-#[tactic(auto, using(crate::proofs::Reading::some_in_group, crate::proofs::Reading::some_in_block, volume_defs::specs::FirstKept::first_inode_within))]
+#[tactic(auto, using(crate::proofs::Reading::some_in_group, crate::proofs::Reading::some_in_block, volume_defs::proofs::FirstKept::first_inode_within))]
 pub(crate) fn inode_at(size: u64, superblock: &Superblock, number: u32) -> u64
     requires first { is_first_superblock superblock.now ≡ true }
     requires within { is_first_inode size superblock.now number ≡ true }
@@ -61,7 +61,7 @@ fn has_block(size: u64, superblock: &Superblock, inode: &Inode, block: usize) ->
 }
 
 /// Whether the pointers of the first blocks, so many, lead to blocks in the image.
-#[tactic(auto, using(volume_defs::specs::FirstKept::has_blocks_none, volume_defs::specs::FirstKept::has_blocks_next, volume_defs::specs::FirstKept::has_blocks_not))]
+#[tactic(auto, using(volume_defs::proofs::FirstKept::has_blocks_none, volume_defs::proofs::FirstKept::has_blocks_next, volume_defs::proofs::FirstKept::has_blocks_not))]
 fn has_blocks(size: u64, superblock: &Superblock, inode: &Inode, count: usize) -> bool
     requires { count ≤ 12 }
     ensures { result ≡ has_blocks_by size superblock.now inode.now count }
@@ -75,7 +75,7 @@ fn has_blocks(size: u64, superblock: &Superblock, inode: &Inode, count: usize) -
 }
 
 /// The place in the image of a block of an inode that has one there.
-#[tactic(auto, using(volume_defs::specs::FirstKept::has_block_within))]
+#[tactic(auto, using(volume_defs::proofs::FirstKept::has_block_within))]
 pub(crate) fn block_at(size: u64, superblock: &Superblock, inode: &Inode, block: usize) -> u64
     requires number { block < 12 }
     requires within { has_block_by size superblock.now inode.now block ≡ true }

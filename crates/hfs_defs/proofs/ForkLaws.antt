@@ -9,7 +9,7 @@ use Rattle.std.proofs.lemmas.Nat.{div_below, div-mul-add, mod-mul-add, div-add-m
 use Rattle.rx_ranges.specs.declared.pieces.Piece.{Piece}
 use Rattle.piece_defs.specs.Joined.{AreInARow}
 use Rattle.piece_defs.specs.Places.{IsPlaced, ArePiecesAt}
-use Rattle.piece_defs.specs.JoinedLaws.{joined_law}
+use Rattle.piece_defs.proofs.JoinedLaws.{joined_law}
 use Rattle.hfs_defs.specs.Forks.{blocks_in, block_place, byte_place, extent_bytes, extent_piece, piece_in_front, pieces_from, pieces_of, extents_with, is_whole, ForkLaw, fork_fault, first_damage, first_passing, written_extents, follow_on}
 use Rattle.hfs_defs.specs.declared.forks.Extent.{Extent}
 use Rattle.hfs_defs.specs.declared.forks.Fork.{Fork}

@@ -1,3 +1,4 @@
 pub mod ForkLaws
 pub mod ForkDamage
 pub mod LeafLaws
+pub mod Rows

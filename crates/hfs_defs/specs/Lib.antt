@@ -6,4 +6,3 @@ pub mod Leaves
 pub mod Chain
 pub mod Overflow
 pub mod TreeFiles
-pub mod Rows

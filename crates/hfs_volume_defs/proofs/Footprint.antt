@@ -8,13 +8,17 @@ use Rattle.std.proofs.lemmas.List.Elements.{All-head, All-tail, All-weaker}
 use Rattle.std.proofs.lemmas.Option.{slice_get_past}
 use Rattle.range_defs.specs.declared.Range.{Range}
 use Rattle.range_defs.specs.Places.{in_range, covers, longest_ranges}
-use Rattle.range_defs.specs.RangeLaws.{longest_ranges_covers}
+use Rattle.range_defs.proofs.RangeLaws.{longest_ranges_covers}
 use Rattle.bytes_defs.specs.Bytes.{part}
 use Rattle.image_defs.specs.Ask.{Ask, Done, run, visits, ◌>>=◌, look, check, given, each}
-use Rattle.image_defs.specs.Agreement.{AgreeOn, run_agree}
-use Rattle.image_defs.specs.Looks.{LooksAt, looks_nowhere, looks_done, looks_bind, looks_check, looks_look, looks_given, bind_gives, check_gives}
-use Rattle.image_defs.specs.Runs.{run_given, visits_check, each_result}
-use Rattle.image_defs.specs.ViaLaws.{LiesIn, agree_on_looks}
+use Rattle.image_defs.specs.Agreement.{AgreeOn}
+use Rattle.image_defs.proofs.Agreement.{run_agree}
+use Rattle.image_defs.specs.Looks.{LooksAt}
+use Rattle.image_defs.proofs.Looks.{looks_nowhere, looks_done, looks_bind, looks_check, looks_look, looks_given, bind_gives, check_gives}
+use Rattle.image_defs.specs.Runs.{each_result}
+use Rattle.image_defs.proofs.Runs.{run_given, visits_check}
+use Rattle.image_defs.specs.ViaLaws.{LiesIn}
+use Rattle.image_defs.proofs.ViaLaws.{agree_on_looks}
 use Rattle.rx_ranges.specs.declared.pieces.Piece.{Piece}
 use Rattle.rx_ranges.specs.declared.pieces.PieceKind.{PieceKind}
 use Rattle.rx_ranges.specs.declared.pieces.PieceKind.TheVariants.{Disk, Zero}

@@ -2,4 +2,3 @@ pub mod Catalog
 pub mod Folders
 pub mod Files
 pub mod Volume
-pub mod VolumeRows

@@ -2,7 +2,6 @@ pub mod Ask
 pub mod Runs
 pub mod Agreement
 pub mod Looks
-pub mod Guard
 pub mod Through
 pub mod Via
 pub mod ViaLaws

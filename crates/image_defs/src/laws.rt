@@ -28,7 +28,7 @@ pub fn elsewhere_looks_at_places<E, X>()
 
 /// The law of steps. A reader that stands for a program goes through it step by step: where a step has come to its value or to
 /// its refusal, the whole has come to what follows, after the ranges that the step looked at.
-#[tactic(auto, using(crate::specs::Standing::steps_law))]
+#[tactic(auto, using(crate::proofs::Standing::steps_law))]
 pub fn steps_are_the_program<E, X, Y>()
     ensures { StepsLaw E X Y }
 {}

@@ -1,11 +1,3 @@
 pub mod Spelling
 pub mod Items
 pub mod Texts
-pub mod Rows
-pub mod SpellingLaws
-pub mod WalkLaws
-pub mod ByteLaws
-pub mod UnitLaws
-pub mod TextLaws
-pub mod OneSpelling
-pub mod ShownLaws

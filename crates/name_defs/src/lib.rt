@@ -24,20 +24,20 @@ pub fn hex_digit(value: u8) -> u8
 }
 
 /// Names of bytes that print as one text are one name.
-#[tactic(auto, using(crate::specs::OneSpelling::one_spelling_of_bytes))]
+#[tactic(auto, using(crate::proofs::OneSpelling::one_spelling_of_bytes))]
 pub fn one_spelling_of_bytes()
     ensures { (a b : List ℕ) → bytes_text a ≡ bytes_text b → a ≡ b }
 {}
 
 /// Names of units that print as one text are one name.
-#[tactic(auto, using(crate::specs::OneSpelling::one_spelling_of_units))]
+#[tactic(auto, using(crate::proofs::OneSpelling::one_spelling_of_units))]
 pub fn one_spelling_of_units()
     ensures { (a b : List ℕ) → All (λ unit. unit < 2 ^ 16) a → All (λ unit. unit < 2 ^ 16) b
         → units_text a ≡ units_text b → a ≡ b }
 {}
 
 /// A name of bytes is read from its front: a character where the bytes begin with the UTF-8 of one, and else one byte.
-#[tactic(auto, using(crate::specs::ByteLaws::byte_reading))]
+#[tactic(auto, using(crate::proofs::ByteLaws::byte_reading))]
 pub fn reading_of_bytes()
     ensures empty { byte_items [] ≡ [] }
     ensures character { (c : ℕ) (rest : List ℕ) → IsScalar c
@@ -48,7 +48,7 @@ pub fn reading_of_bytes()
 
 /// A name of units is read from its front: a character where the units begin with the UTF-16 of one, and else one
 /// surrogate that begins no pair.
-#[tactic(auto, using(crate::specs::UnitLaws::unit_reading))]
+#[tactic(auto, using(crate::proofs::UnitLaws::unit_reading))]
 pub fn reading_of_units()
     ensures empty { unit_items [] ≡ [] }
     ensures character { (c : ℕ) (rest : List ℕ) → IsScalar c
@@ -58,14 +58,14 @@ pub fn reading_of_units()
 {}
 
 /// A printed name has no control character and no `/`.
-#[tactic(auto, using(crate::specs::ShownLaws::names_show))]
+#[tactic(auto, using(crate::proofs::ShownLaws::names_show))]
 pub fn names_show()
     ensures bytes { (name : List ℕ) → All (λ byte. byte < 2 ^ 8) name → All IsShownInName (bytes_text name) }
     ensures units { (name : List ℕ) → All (λ unit. unit < 2 ^ 16) name → All IsShownInName (units_text name) }
 {}
 
 /// A printed word has no control character.
-#[tactic(auto, using(crate::specs::ShownLaws::word_text_shows))]
+#[tactic(auto, using(crate::proofs::ShownLaws::word_text_shows))]
 pub fn words_show()
     ensures { (word : List ℕ) → All IsShown (word_text word) }
 {}

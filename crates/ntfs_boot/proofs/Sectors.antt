@@ -1,6 +1,6 @@
 -- Boot sectors: sizes of records, the tests one after the other, and what holds of a volume that passes them.
-use Rattle.std.proofs.Common.{◌≡◌, ℕ, suc, ◌+◌, ◌*◌, ◌/◌, ◌%◌, ◌^◌, ◌<◌, ◌≤◌, min, Bool, true, false, ℤ, pos, negsuc, List, [], ◌∷◌, Option, Some, None, IfSome, Result, Ok, Err, arith, lit<, lit≤, ap, ap₂, sym, ◌∙◌, subst, ⊎_elim, refl}
-use Rattle.std.specs.Prelude.{◌||◌, ◌&&◌, ◌==◌, nat_lt, nat_le, if◌then◌else◌, slice_index}
+use Rattle.std.proofs.Common.{◌≡◌, ℕ, ◌+◌, ◌*◌, ◌/◌, ◌%◌, ◌^◌, ◌<◌, ◌≤◌, min, Bool, true, false, ℤ, pos, negsuc, List, [], ◌∷◌, Option, Some, None, IfSome, Result, Ok, Err, arith, ap, sym, ◌∙◌, subst, ⊎_elim, refl}
+use Rattle.std.specs.Prelude.{◌==◌, nat_lt, nat_le, if◌then◌else◌, slice_index}
 use Rattle.std.specs.List.{list_any}
 use Rattle.std.specs.Int.{w8, cast_signed, cast_unsigned}
 use Rattle.std.proofs.lemmas.Int.{of_z-to_z}
@@ -13,9 +13,9 @@ use lib.IntN.{nat_abs}
 use Rattle.bytes_defs.specs.Bytes.{part}
 use Rattle.bytes_defs.specs.declared.order.Order.TheVariants.{Little}
 use Rattle.bytes_defs.specs.Numbers.{number_at, little_signed_at}
-use Rattle.bytes_defs.specs.NumberLaws.{signed_at_number}
+use Rattle.bytes_defs.proofs.NumberLaws.{signed_at_number}
 use Rattle.image_defs.specs.Ask.{Ask, run, check, ◌>>◌}
-use Rattle.image_defs.specs.Runs.{run_check_true, run_check_false}
+use Rattle.image_defs.proofs.Runs.{run_check_true, run_check_false}
 use Rattle.fault_defs.specs.declared.Sort.TheVariants.{BootField}
 use Rattle.fault_defs.specs.declared.What.TheVariants.{BootGeometry}
 use Rattle.fault_defs.specs.declared.Refusal.{Refusal}

@@ -4,7 +4,7 @@ use Rattle.std.specs.Prelude.{◌⊎◌, nat_lt}
 use Rattle.std.proofs.lemmas.Bool.{cases_lt, lt-ltb, le-ltb}
 use Rattle.std.proofs.lemmas.List.{ext_get_or, get_or-set_other, length-set}
 use Rattle.std.proofs.lemmas.Grind.{get_or-set_at}
-use Rattle.image_defs.specs.ViaLaws.{length_seen, seen_at}
+use Rattle.image_defs.proofs.ViaLaws.{length_seen, seen_at}
 use Rattle.ntfs_record.specs.Mending.{filling_place, filling_at, filled}
 
 pub filling_kept : (from step i : ℕ) → i % 512 < 510 → filling_place from step i ≡ i

@@ -7,15 +7,16 @@ use Rattle.std.proofs.lemmas.Slice.Eq.{bytes_eq-Decides}
 use Rattle.std.specs.Str.{bytes_eq}
 use Rattle.bytes_defs.specs.Bytes.{part}
 use Rattle.image_defs.specs.Ask.{Ask, run, each, check, ◌>>◌}
-use Rattle.image_defs.specs.Runs.{run_next, run_bind, run_bind_done, with_value}
-use Rattle.image_defs.specs.ViaLaws.{run_via, seen_at, length_seen}
+use Rattle.image_defs.specs.Runs.{with_value}
+use Rattle.image_defs.proofs.Runs.{run_next, run_bind, run_bind_done}
+use Rattle.image_defs.proofs.ViaLaws.{run_via, seen_at, length_seen}
 use Rattle.ntfs_record_defs.specs.declared.fault.RecordFault.{RecordFault}
 use Rattle.ntfs_record_defs.specs.declared.fault.RecordFault.TheVariants.{NotFile, BadFixup, BadField}
 use Rattle.ntfs_record_defs.specs.Stored.{stored_place, stored_at, entries, array_end, is_array, count_from, ends_with}
-use Rattle.ntfs_record_defs.specs.StoredLaws.{kept, replaced}
+use Rattle.ntfs_record_defs.proofs.StoredLaws.{kept, replaced}
 use Rattle.ntfs_record_defs.specs.Attributes.{attributes_from}
 use Rattle.ntfs_record_defs.specs.Record.{Header, header_of, is_file, is_used_size, stored_attributes, record_within, record_behind, record_of}
-use Rattle.ntfs_record_defs.specs.LentLaws.{header_front, header_mended}
+use Rattle.ntfs_record_defs.proofs.LentLaws.{header_front, header_mended}
 use Rattle.ntfs_record_defs.specs.Lent.{IsRecordSize, IsMended, mended}
 use Rattle.ntfs_record.specs.Mending.{status, and_check, header_check, ends_check, ends_check_from, sizes_check, attributes_check, stored_check, record_check, filling_place, filling_at, filled}
 use Rattle.ntfs_record.proofs.Filling.{filling_kept, filling_moved, filled_at}

@@ -5,16 +5,18 @@ use Rattle.std.specs.Option.{option_map}
 use Rattle.std.proofs.lemmas.Bool.{lt-leb}
 use Rattle.bytes_defs.specs.Bytes.{part}
 use Rattle.image_defs.specs.Ask.{Ask, Done, run, ◌>>=◌}
-use Rattle.image_defs.specs.Runs.{run_next, run_bind, run_bind_ok, run_bind_err, run_check_false, with_value}
+use Rattle.image_defs.specs.Runs.{with_value}
+use Rattle.image_defs.proofs.Runs.{run_next, run_bind, run_bind_ok, run_bind_err, run_check_false}
 use Rattle.bytes_defs.specs.declared.order.Order.TheVariants.{Little}
 use Rattle.bytes_defs.specs.Numbers.{little_at}
-use Rattle.bytes_defs.specs.NumberLaws.{number_at_part}
+use Rattle.bytes_defs.proofs.NumberLaws.{number_at_part}
 use Rattle.ntfs_record_defs.specs.declared.fault.RecordFault.{RecordFault}
 use Rattle.ntfs_record_defs.specs.declared.fault.RecordFault.TheVariants.{BadField}
 use Rattle.ntfs_record_defs.specs.Attributes.{Opened, is_resident, header_size, next_attribute, and_behind, attributes_within, attributes_from}
-use Rattle.ntfs_record_defs.specs.AttributeLaws.{attribute_lies, attribute_length, next_some}
+use Rattle.ntfs_record_defs.proofs.AttributeLaws.{attribute_lies, attribute_length, next_some}
 use Rattle.ntfs_record_defs.specs.Lent.{Lent, lent, lent_next}
-use Rattle.ntfs_record_defs.specs.LentLaws.{lent_of, next_lent}
+use Rattle.ntfs_record_defs.specs.LentLaws.{lent_of}
+use Rattle.ntfs_record_defs.proofs.LentLaws.{next_lent}
 
 -- where the attribute behind the one at a place begins
 abbrev pub next_place : List ℕ → ℕ → ℕ

@@ -4,7 +4,8 @@ use Rattle.std.specs.Prelude.{not}
 use Rattle.std.specs.Str.{bytes_eq}
 use Rattle.bytes_defs.specs.Bytes.{part}
 use Rattle.image_defs.specs.Ask.{run, each, check}
-use Rattle.image_defs.specs.Runs.{run_bind_ok, run_bind_err, run_bind_done, with_value}
+use Rattle.image_defs.specs.Runs.{with_value}
+use Rattle.image_defs.proofs.Runs.{run_bind_ok, run_bind_err, run_bind_done}
 use Rattle.ntfs_record_defs.specs.declared.fault.RecordFault.{RecordFault}
 use Rattle.ntfs_record_defs.specs.declared.fault.RecordFault.TheVariants.{BadFixup}
 use Rattle.ntfs_record_defs.specs.Stored.{count_from, ends_with}

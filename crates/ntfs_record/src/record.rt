@@ -74,7 +74,7 @@ impl<'a> FileRecord<'a> {
     }
 
     /// The attributes in order.
-    #[tactic(auto, using(ntfs_record_defs::specs::LentLaws::mended_apart))]
+    #[tactic(auto, using(ntfs_record_defs::proofs::LentLaws::mended_apart))]
     pub fn attrs(&self) -> Attrs<'a>
         ensures all { result ≡ lent_attributes self.now }
         ensures rise { AreApart self.now }

@@ -28,13 +28,13 @@ pub fn an_image_is_looked_at_outside_the_content()
 {}
 
 /// A mended record lends the attributes of the record that was stored, each slice from the record's true bytes.
-#[tactic(auto, using(crate::specs::LentLaws::mended_lends))]
+#[tactic(auto, using(crate::proofs::LentLaws::mended_lends))]
 pub fn a_mended_record_lends_what_is_stored()
     ensures { MendedLends }
 {}
 
 /// The attributes that a mended record lends stand one behind the other, in its used bytes.
-#[tactic(auto, using(crate::specs::LentLaws::mended_apart))]
+#[tactic(auto, using(crate::proofs::LentLaws::mended_apart))]
 pub fn lent_attributes_are_apart()
     ensures { (bytes : List ℕ) → IsMended bytes → AreApart bytes }
 {}

@@ -5,8 +5,8 @@ use Rattle.ntfs_defs.specs.declared.runs.Run.{Run}
 use Rattle.ntfs_defs.specs.declared.runs.WrittenRun.{WrittenRun}
 use Rattle.ntfs_defs.specs.WrittenRuns.{run_at}
 use Rattle.ntfs_defs.specs.DecodedRuns.{base_after, checked_run}
-use Rattle.ntfs_defs.specs.ListLaws.{IsDecodedTo, decoding_starts, decoding_goes_on}
-use Rattle.ntfs_defs.specs.RunLaws.{checked_run-ok}
+use Rattle.ntfs_defs.proofs.ListLaws.{IsDecodedTo, decoding_starts, decoding_goes_on}
+use Rattle.ntfs_defs.proofs.RunLaws.{checked_run-ok}
 
 -- what the loop keeps: its runs, and those from its place on, are all, and its numbers are within their limits
 pub record IsWalked (clusters : ℕ) (bytes : List ℕ) (runs : List Run) (base total at : ℕ) : Type 0 where

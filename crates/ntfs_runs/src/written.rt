@@ -12,7 +12,7 @@ use ntfs_defs::runs::{Run, WrittenRun};
 const MOST_CLUSTERS: u64 = 1 << 48;
 
 /// The length in `count` bytes from a place on.
-#[tactic(auto, using(bytes_defs::specs::NumberLaws::field_reads), unfolding(bytes_defs::specs::Numbers::number_at))]
+#[tactic(auto, using(bytes_defs::proofs::NumberLaws::field_reads), unfolding(bytes_defs::specs::Numbers::number_at))]
 fn length_at(bytes: &[u8], at: usize, count: usize) -> u64
     requires few { count ≤ 8 }
     requires inside { at + count ≤ length bytes.now }
@@ -25,7 +25,7 @@ fn length_at(bytes: &[u8], at: usize, count: usize) -> u64
 }
 
 /// The offset in `count` bytes from a place on; None where there are no bytes.
-#[tactic(auto, using(bytes_defs::specs::NumberLaws::field_reads), unfolding(ntfs_defs::specs::WrittenRuns::offset_at))]
+#[tactic(auto, using(bytes_defs::proofs::NumberLaws::field_reads), unfolding(ntfs_defs::specs::WrittenRuns::offset_at))]
 fn offset_at(bytes: &[u8], at: usize, count: usize) -> Option<i64>
     requires few { count ≤ 8 }
     requires inside { at + count ≤ length bytes.now }

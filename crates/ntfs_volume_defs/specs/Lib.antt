@@ -11,4 +11,3 @@ pub mod Files
 pub mod Paths
 pub mod Guard
 pub mod Volume
-pub mod VolumeRows

@@ -1,5 +1,1 @@
-pub mod SlotLaws
-pub mod HeldLaws
-pub mod MapLaws
-pub mod GuardLaws
 pub mod VolumeLaws

@@ -3,6 +3,5 @@ pub mod Places
 pub mod Joined
 pub mod JoinedLaws
 pub mod OnePieces
-pub mod ByteLaws
 pub mod Put
 pub mod ThroughLaws

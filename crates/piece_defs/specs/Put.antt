@@ -1,12 +1,8 @@
 -- One more piece at the end of a content's pieces.
-use Rattle.std.specs.Prelude.{◌≡◌, ℕ, ◌+◌, ◌<◌, Bool, true, false, not, Option, List, [], ◌∷◌, ◌++◌, refl}
-use Rattle.std.proofs.Common.{ap, sym, ◌∙◌, subst, arith}
-use Rattle.std.proofs.lemmas.List.Elements.{All-push}
+use Rattle.std.specs.Prelude.{◌≡◌, ℕ, ◌+◌, ◌<◌, Option, List, [], ◌∷◌}
 use Rattle.rx_ranges.specs.declared.pieces.Piece.{Piece}
-use Rattle.piece_defs.specs.Covering.{goes_on, covers_from}
 use Rattle.piece_defs.specs.Places.{IsPlaced, ArePiecesAt}
-use Rattle.piece_defs.specs.Joined.{joined_onto, joined_pieces, joined_onto_stands, AreInARow}
-use Rattle.piece_defs.specs.JoinedLaws.{joined_law, first_of_all, covered_row}
+use Rattle.piece_defs.specs.Joined.{joined_onto}
 
 -- pieces with one more at the end: the last grows where that goes on
 abbrev pub put : List Piece → Piece → List Piece
@@ -14,32 +10,7 @@ put [] piece = piece ∷ []
 put (last ∷ []) piece = joined_onto last (piece ∷ [])
 put (first ∷ next ∷ rest) piece = first ∷ put (next ∷ rest) piece
 
--- pieces that are as long as possible are so joined with one more
-put_joined : (from end : ℕ) (first : Piece) (rest : List Piece) (piece : Piece) → covers_from from end (first ∷ rest) ≡ true → put (first ∷ rest) piece ≡ joined_onto first (rest ++ piece ∷ [])
-put_joined from end first [] piece covered = refl
-put_joined from end first (next ∷ rest) piece covered =
-    let facts = first_of_all from end first (next ∷ rest) covered in
-    ap (λ list. first ∷ list) (put_joined (from + first.len) end next rest piece facts.rest)
-    ∙ sym (joined_onto_stands first next (rest ++ piece ∷ []) (not_true (goes_on first next) facts.anew))
-  where
-    not_true : (goes : Bool) → not goes ≡ true → goes ≡ false
-    not_true true is = absurd cc
-    not_true false is = refl
-
-row_push : (from end : ℕ) (pieces : List Piece) (piece : Piece) → AreInARow from end pieces → piece.from ≡ end → 0 < piece.len → AreInARow from (end + piece.len) (pieces ++ piece ∷ [])
-row_push from end [] piece row begins some = (omega (arith, row, begins), some, omega (arith, row))
-row_push from end (first ∷ rest) piece row begins some = (row.0, row.1, row_push (from + first.len) end rest piece row.2 begins some)
-
 -- with one more piece that puts its bytes where they stand, they are the pieces of the longer content
 abbrev pub PutLaw : Type 0
 PutLaw = (place : ℕ → Option ℕ) (end : ℕ) (pieces : List Piece) (piece : Piece) → ArePiecesAt place end pieces → piece.from ≡ end → 0 < piece.len → IsPlaced place piece
     → ArePiecesAt place (end + piece.len) (put pieces piece)
-
-pub put_law : PutLaw
-put_law place end pieces piece are begins some placed =
-    subst (ArePiecesAt place (end + piece.len)) (sym (is pieces are.covered))
-    (joined_law place (end + piece.len) (pieces ++ piece ∷ []) (row_push 0 end pieces piece (covered_row 0 end pieces are.covered) begins some) (All-push (IsPlaced place) pieces piece are.placed placed))
-  where
-    is : (pieces : List Piece) → covers_from 0 end pieces ≡ true → put pieces piece ≡ joined_pieces (pieces ++ piece ∷ [])
-    is [] covered = refl
-    is (first ∷ rest) covered = put_joined 0 end first rest piece covered

@@ -1,5 +1,4 @@
 pub mod FirstLine
 pub mod Numbered
 pub mod Reads
-pub mod ReadsLaws
 pub mod Settle

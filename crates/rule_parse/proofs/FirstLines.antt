@@ -8,7 +8,7 @@ use Rattle.std.specs.List.{list_all}
 use Rattle.std.specs.Str.{IsAscii, IsUtf8}
 use Rattle.std.proofs.lemmas.Str.{IsUtf8-from_ascii}
 use Rattle.std.proofs.lemmas.Bool.Decides.{nat_tests}
-use Rattle.rule_defs.specs.ReadsLaws.{opening, middle, rest_of, first_line-opening, rest-is, EndsLine, line-of, same_parts}
+use Rattle.rule_defs.proofs.ReadsLaws.{opening, middle, rest_of, first_line-opening, rest-is, EndsLine, line-of, same_parts}
 use Rattle.rule_defs.specs.Reads.{first_line, hex_value, is_name_byte, is_plain_name, IsFirstLine, Reads, SaysNoRules, first_rule}
 use Rattle.rule_defs.specs.declared.Rule.{Rule}
 use Rattle.rule_defs.specs.FirstLine.{IsOtherLine, without_end}

@@ -54,7 +54,7 @@ impl<'a> View<'a> {
     }
 
     /// The `u16` at a place, the lowest byte first; None where it passes the end.
-    #[tactic(auto, using(bytes_defs::specs::NumberLaws::own_fields))]
+    #[tactic(auto, using(bytes_defs::proofs::NumberLaws::own_fields))]
     pub fn u16_le(&self, at: usize) -> Option<u16>
         ensures { SomeIff result (at + 2 ≤ length self.now) (little_at 2 self.now at) }
     {
@@ -62,7 +62,7 @@ impl<'a> View<'a> {
     }
 
     /// The `u32` at a place, the lowest byte first; None where it passes the end.
-    #[tactic(auto, using(bytes_defs::specs::NumberLaws::own_fields))]
+    #[tactic(auto, using(bytes_defs::proofs::NumberLaws::own_fields))]
     pub fn u32_le(&self, at: usize) -> Option<u32>
         ensures { SomeIff result (at + 4 ≤ length self.now) (little_at 4 self.now at) }
     {
@@ -70,7 +70,7 @@ impl<'a> View<'a> {
     }
 
     /// The `u64` at a place, the lowest byte first; None where it passes the end.
-    #[tactic(auto, using(bytes_defs::specs::NumberLaws::own_fields))]
+    #[tactic(auto, using(bytes_defs::proofs::NumberLaws::own_fields))]
     pub fn u64_le(&self, at: usize) -> Option<u64>
         ensures { SomeIff result (at + 8 ≤ length self.now) (little_at 8 self.now at) }
     {
@@ -78,7 +78,7 @@ impl<'a> View<'a> {
     }
 
     /// The `i32` at a place, the lowest byte first; None where it passes the end.
-    #[tactic(auto, using(bytes_defs::specs::NumberLaws::own_fields))]
+    #[tactic(auto, using(bytes_defs::proofs::NumberLaws::own_fields))]
     pub fn i32_le(&self, at: usize) -> Option<i32>
         ensures { SomeIff result (at + 4 ≤ length self.now) (little_signed_at w32 self.now at) }
     {
@@ -86,7 +86,7 @@ impl<'a> View<'a> {
     }
 
     /// The `i64` at a place, the lowest byte first; None where it passes the end.
-    #[tactic(auto, using(bytes_defs::specs::NumberLaws::own_fields))]
+    #[tactic(auto, using(bytes_defs::proofs::NumberLaws::own_fields))]
     pub fn i64_le(&self, at: usize) -> Option<i64>
         ensures { SomeIff result (at + 8 ≤ length self.now) (little_signed_at w64 self.now at) }
     {
@@ -94,7 +94,7 @@ impl<'a> View<'a> {
     }
 
     /// The `u16` at a place, the highest byte first; None where it passes the end.
-    #[tactic(auto, using(bytes_defs::specs::NumberLaws::own_fields))]
+    #[tactic(auto, using(bytes_defs::proofs::NumberLaws::own_fields))]
     pub fn u16_be(&self, at: usize) -> Option<u16>
         ensures { SomeIff result (at + 2 ≤ length self.now) (big_at 2 self.now at) }
     {
@@ -102,7 +102,7 @@ impl<'a> View<'a> {
     }
 
     /// The `u32` at a place, the highest byte first; None where it passes the end.
-    #[tactic(auto, using(bytes_defs::specs::NumberLaws::own_fields))]
+    #[tactic(auto, using(bytes_defs::proofs::NumberLaws::own_fields))]
     pub fn u32_be(&self, at: usize) -> Option<u32>
         ensures { SomeIff result (at + 4 ≤ length self.now) (big_at 4 self.now at) }
     {
@@ -110,7 +110,7 @@ impl<'a> View<'a> {
     }
 
     /// The `u64` at a place, the highest byte first; None where it passes the end.
-    #[tactic(auto, using(bytes_defs::specs::NumberLaws::own_fields))]
+    #[tactic(auto, using(bytes_defs::proofs::NumberLaws::own_fields))]
     pub fn u64_be(&self, at: usize) -> Option<u64>
         ensures { SomeIff result (at + 8 ≤ length self.now) (big_at 8 self.now at) }
     {

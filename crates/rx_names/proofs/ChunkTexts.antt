@@ -11,8 +11,8 @@ use Rattle.std.proofs.lemmas.List.{take_at, drop_at, get_or_append_left, nil_fro
 use Rattle.std.proofs.lemmas.Str.{IsUtf8-append, IsUtf8-encode, is_utf8-from_IsUtf8, IsCharBoundary-start, length-encode, len_utf8_bounds, encodes-chars, scalars-chars}
 use Rattle.name_defs.specs.Spelling.{byte_escape, name_spelling}
 use Rattle.name_defs.specs.Texts.{items_text, bytes_text}
-use Rattle.name_defs.specs.ByteLaws.{byte_items-nil}
-use Rattle.name_defs.specs.TextLaws.{items_text-nil, bytes_text-characters, bytes_text-bad}
+use Rattle.name_defs.proofs.ByteLaws.{byte_items-nil}
+use Rattle.name_defs.proofs.TextLaws.{items_text-nil, bytes_text-characters, bytes_text-bad}
 
 -- a front that is UTF-8 is no longer than the longest
 longest_front : (bytes : List ℕ) (n m : ℕ) → m ≤ n → is_utf8 (take m bytes) ≡ true → m ≤ valid_len_up_to bytes n

@@ -10,8 +10,8 @@ use Rattle.std.proofs.lemmas.Bool.Decides.{nat_tests}
 use Rattle.name_defs.specs.Spelling.{name_spelling, unit_escape}
 use Rattle.name_defs.specs.Texts.{items_text, units_text}
 use Rattle.name_defs.specs.Items.{begins_pair}
-use Rattle.name_defs.specs.UnitLaws.{is_surrogate, unit_items-nil}
-use Rattle.name_defs.specs.TextLaws.{items_text-nil, units_text-pair, units_text-one, units_text-surrogate}
+use Rattle.name_defs.proofs.UnitLaws.{is_surrogate, unit_items-nil}
+use Rattle.name_defs.proofs.TextLaws.{items_text-nil, units_text-pair, units_text-one, units_text-surrogate}
 
 pub units_text-nil : units_text [] ≡ []
 units_text-nil = ap items_text unit_items-nil ∙ items_text-nil

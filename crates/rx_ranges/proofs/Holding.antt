@@ -5,7 +5,7 @@ use Rattle.std.specs.List.Sorted.{IsNonDecreasingBy}
 use Rattle.std.proofs.lemmas.List.Sorted.{IsNonDecreasingBy-from_all_adjacent}
 use Rattle.range_defs.specs.declared.Claim.{Claim}
 use Rattle.range_defs.specs.Claims.{paint_of, lesser_paint, painted, IsFillMap}
-use Rattle.range_defs.specs.ClaimLaws.{painted-before, painted-after, lesser-none}
+use Rattle.range_defs.proofs.ClaimLaws.{painted-before, painted-after, lesser-none}
 
 -- the claims of a map rise
 rises : (claims : List Claim) (k : ℕ) (d : Claim) → IsFillMap claims → suc k < length claims → (get_or claims k d).range.at ≤ (get_or claims (suc k) d).range.at

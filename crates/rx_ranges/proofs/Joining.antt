@@ -7,7 +7,7 @@ use Rattle.std.proofs.lemmas.Bool.Decides.{nat_tests}
 use Rattle.range_defs.specs.declared.Claim.{Claim}
 use Rattle.range_defs.specs.Places.{in_range, EndsInReach}
 use Rattle.range_defs.specs.Claims.{paint_of, lesser_paint, painted, BeginsApart, IsFillMap}
-use Rattle.range_defs.specs.ClaimLaws.{paint_either}
+use Rattle.range_defs.proofs.ClaimLaws.{paint_either}
 use Rattle.rx_ranges.specs.Laying.{AreApart, HasFill}
 
 -- whether a claim is joined to the one behind which it begins

@@ -3,7 +3,7 @@ use Rattle.std.proofs.Common.{◌≡◌, ℕ, ◌+◌, ◌<◌, ◌≤◌, Optio
 use Rattle.std.proofs.lemmas.List.{append-nil}
 use Rattle.std.proofs.lemmas.Bool.{cases_lt, le-leb, lt-leb}
 use Rattle.range_defs.specs.declared.Claim.{Claim}
-use Rattle.range_defs.specs.ClaimLaws.{paint_before, paint_behind, paint_inside, lesser-none}
+use Rattle.range_defs.proofs.ClaimLaws.{paint_before, paint_behind, paint_inside, lesser-none}
 use Rattle.range_defs.specs.Claims.{paint_of, lesser_paint, painted}
 use Rattle.rx_ranges.specs.Laying.{AreApart, part_of, shared_part, laid_on, unless_empty}
 use Rattle.rx_ranges.proofs.Paints.{painted-unless, part-in, part-before, part-behind, part-out, apart-before}

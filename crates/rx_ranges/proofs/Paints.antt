@@ -5,7 +5,7 @@ use Rattle.std.proofs.lemmas.Bool.{cases_lt, lt-ltb, le-ltb}
 use Rattle.std.proofs.lemmas.Bool.Decides.{nat_tests}
 use Rattle.range_defs.specs.declared.Claim.{Claim}
 use Rattle.range_defs.specs.Claims.{paint_of, lesser_paint, painted}
-use Rattle.range_defs.specs.ClaimLaws.{paint_before, lesser-none}
+use Rattle.range_defs.proofs.ClaimLaws.{paint_before, lesser-none}
 use Rattle.rx_ranges.specs.Laying.{AreApart, part_of, unless_empty}
 
 lesser_assoc-some : (a b c : ℕ × ℕ) → lesser_paint (lesser_paint (Some a) (Some b)) (Some c) ≡ lesser_paint (Some a) (lesser_paint (Some b) (Some c))

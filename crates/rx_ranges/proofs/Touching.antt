@@ -8,7 +8,7 @@ use Rattle.range_defs.specs.declared.Claim.{Claim}
 use Rattle.range_defs.specs.declared.Range.{Range}
 use Rattle.range_defs.specs.AnyByte.{TellsIfAny}
 use Rattle.range_defs.specs.Claims.{painted, paint_of, IsFillMap}
-use Rattle.range_defs.specs.ClaimLaws.{paint_inside, paint_behind}
+use Rattle.range_defs.proofs.ClaimLaws.{paint_inside, paint_behind}
 use Rattle.range_defs.specs.Places.{in_range}
 use Rattle.rx_ranges.proofs.Holding.{held, held-none, non_decreasing}
 

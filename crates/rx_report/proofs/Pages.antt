@@ -5,7 +5,7 @@ use Rattle.std.proofs.lemmas.List.{take-append-drop}
 use Rattle.std.proofs.lemmas.Grind.{flat_map-append}
 use Rattle.std.specs.List.{flat_map}
 use Rattle.disk_defs.specs.Stream.{taken_with, TookPrefixOf}
-use Rattle.disk_defs.specs.StreamLaws.{taken_with-append, took_prefix-within}
+use Rattle.disk_defs.proofs.StreamLaws.{taken_with-append, took_prefix-within}
 
 -- the lines of the next page
 abbrev pub page_lines : {X : Type 0} → (X → List ℕ) → List X → ℕ → ℕ → List ℕ

@@ -2,7 +2,8 @@
 use Rattle.std.proofs.Common.{◌≡◌, ℕ, Option, Some, None, List, ◌++◌, length, take, drop, ap, ◌∙◌, append_assoc}
 use Rattle.std.proofs.Math.Seq.{drop-append_seam}
 use Rattle.std.proofs.lemmas.List.{take-append-drop}
-use Rattle.disk_defs.specs.Stream.{GivesFirst, rest_after, IsPartlyRead, ReadSoFar}
+use Rattle.disk_defs.specs.Stream.{GivesFirst, rest_after, IsPartlyRead}
+use Rattle.disk_defs.proofs.Stream.{ReadSoFar}
 
 -- one more block
 pub ReadSoFar-more : (before now after : Option (List ℕ)) (text block : List ℕ) (count : ℕ) → ReadSoFar before now text → GivesFirst now block count → after ≡ rest_after now count → ReadSoFar before after (text ++ take count block)

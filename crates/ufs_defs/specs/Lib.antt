@@ -5,5 +5,3 @@ pub mod Directory
 pub mod Blocks
 pub mod BlockLaws
 pub mod SlackLaws
-pub mod Entries
-pub mod SoundSuperblock

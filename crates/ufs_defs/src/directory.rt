@@ -24,7 +24,7 @@ pub fn is_entry(content: &[u8], at: usize) -> bool
 }
 
 /// The length of the entry at a place, which ends in the content.
-#[tactic(auto, using(crate::specs::Entries::entry_laws))]
+#[tactic(auto, using(crate::proofs::Entries::entry_laws))]
 pub fn record_length(content: &[u8], at: usize) -> usize
     requires whole { length content.now % 512 ≡ 0 }
     requires inside { at < length content.now }

@@ -1,17 +1,11 @@
 -- What each tree of an image of the first form is.
-use Rattle.std.specs.Prelude.{◌≡◌, ℕ, Result, Ok, Err, List, refl, length}
+use Rattle.std.specs.Prelude.{◌≡◌, ℕ, Ok, List}
 use Rattle.std.specs.List.{All}
-use Rattle.std.proofs.Common.{subst}
-use Rattle.image_defs.specs.Ask.{run}
-use Rattle.image_defs.specs.Runs.{with_value}
 use Rattle.rx_tree.specs.FoundTree.{FoundTree}
 use Rattle.rx_tree.specs.Order.{HaveRisingIds, HaveRisingNumbers, AreInVolumes}
 use Rattle.rx_tree.specs.Within.{IsWithin}
-use Rattle.rx_tree.specs.declared.file.FileEntry.{FileEntry}
-use Rattle.volume_defs.specs.FirstForm.{FirstFault, first_files}
-use Rattle.volume_defs.specs.FirstTree.{guard_of, tree_of, first_tree}
+use Rattle.volume_defs.specs.FirstTree.{first_tree}
 use Rattle.volume_defs.specs.FoundFiles.{IsWhole}
-use Rattle.volume_defs.specs.FirstInvariants.{first_tree_within, first_tree_rises, first_tree_in_volume, first_tree_whole}
 
 -- all that it says lies in its image; its volumes and its files stand in order, and each file is in one of the volumes;
 -- the names of each file are sorted paths, its parts stand in order, and the pieces of each part cover it
@@ -24,21 +18,3 @@ pub record IsTree (tree : FoundTree) : Type 0 where
 
 abbrev pub FirstTreeLaw : Type 0
 FirstTreeLaw = (image : List ℕ) (tree : FoundTree) → first_tree image ≡ Ok tree → IsTree tree
-
-tree_gives : (image : List ℕ) (tree : FoundTree) (files : Result (List FileEntry) FirstFault) → run image (first_files (length image)) ≡ files
-    → with_value (tree_of (length image) (guard_of image)) files ≡ Ok tree → IsTree tree
-tree_gives image tree (Ok files) is gives =
-    let same : tree_of (length image) (guard_of image) files ≡ tree = cc in
-    let P : FoundTree → Type 0 = λ found. IsTree found in
-    subst P same (record {
-      within = first_tree_within image files is;
-      volumes = (tt, tt);
-      rising = first_tree_rises image (length image) files is;
-      in_volumes = first_tree_in_volume image (length image) files is;
-      whole = first_tree_whole image (length image) files is;
-    })
-tree_gives image tree (Err fault) is gives = absurd cc
-
-pub first_tree_law : FirstTreeLaw
-unfolding first_tree
-first_tree_law image tree gives = tree_gives image tree (run image (first_files (length image))) refl gives

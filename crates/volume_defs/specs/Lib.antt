@@ -2,15 +2,7 @@ pub mod Kind
 pub mod FirstForm
 pub mod FirstTree
 pub mod FirstFootprint
-pub mod EachRun
 pub mod FirstReader
-pub mod FirstKept
 pub mod FirstRanges
 pub mod FoundFiles
-pub mod FirstInvariants
 pub mod FirstTreeLaw
-pub mod FirstLooks
-pub mod ImageT
-pub mod RowsT
-pub mod RowsFiles
-pub mod GuardT

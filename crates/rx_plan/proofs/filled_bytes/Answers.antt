@@ -4,7 +4,7 @@ use Rattle.std.proofs.lemmas.Result.{IfOk-weaker}
 use Rattle.range_defs.specs.declared.Range.{Range}
 use Rattle.range_defs.specs.Claims.{painted, ranges_of}
 use Rattle.range_defs.specs.Places.{covers, EndsInReach}
-use Rattle.range_defs.specs.ClaimLaws.{covers-claims}
+use Rattle.range_defs.proofs.ClaimLaws.{covers-claims}
 use Rattle.rx_plan.proofs.filled_bytes.Goals as goal
 
 pub from_ranges-requires : goal.from_ranges-requires

@@ -8,7 +8,7 @@ use Rattle.rx_tree.specs.Within.{IsWithin}
 use Rattle.rule_defs.specs.declared.Rule.{Rule}
 use Rattle.rule_defs.specs.Numbered.{AreNumbered}
 use Rattle.plan_defs.specs.Plan.{all_claims, planned_at, listed_as}
-use Rattle.plan_defs.specs.PlanLaws.{all_claims-in_reach, claims-one_fill, plan-by_parts, guarded-by_least}
+use Rattle.plan_defs.proofs.PlanLaws.{all_claims-in_reach, claims-one_fill, plan-by_parts, guarded-by_least}
 use Rattle.rx_plan.proofs.LeastGuarded.{names_guarded}
 use Rattle.rx_plan.proofs.make_plan.Goals as goal
 

@@ -1,7 +1,7 @@
 use Rattle.std.proofs.Common.{◌++◌, ◌∷◌, [], ◌∙◌, ap, sym, append_assoc}
 use Rattle.text_defs.specs.Report.{listed_head}
 use Rattle.disk_defs.specs.Stream.{taken_with}
-use Rattle.disk_defs.specs.StreamLaws.{took_prefix-within, took_prefix-last, taken_with-append, on_err}
+use Rattle.disk_defs.proofs.StreamLaws.{took_prefix-within, took_prefix-last, taken_with-append, on_err}
 use Rattle.rx_report.proofs.write_listed.Goals as goal
 
 pub returns-in_err-write_all-2-clause-prefix : goal.returns-in_err-write_all-2-clause-prefix

@@ -1,6 +1,6 @@
 use Rattle.std.proofs.Common.{ap}
 use Rattle.text_defs.specs.Report.{listed_line}
-use Rattle.disk_defs.specs.StreamLaws.{took_prefix-in_pieces, on_err}
+use Rattle.disk_defs.proofs.StreamLaws.{took_prefix-in_pieces, on_err}
 use Rattle.rx_report.proofs.write_listing.Goals as goal
 
 pub returns-in_err-write_listed-clause-prefix : goal.returns-in_err-write_listed-clause-prefix

@@ -1,5 +1,5 @@
 use Rattle.std.proofs.Common.{◌∙◌, rules}
-use Rattle.disk_defs.specs.StreamLaws.{on_err}
+use Rattle.disk_defs.proofs.StreamLaws.{on_err}
 use Rattle.text_defs.specs.Report.{range_line}
 use Rattle.rx_report.proofs.Pages.{taken-more, prefix-more}
 use Rattle.rx_report.proofs.write_ranges.Goals as goal

@@ -2,7 +2,7 @@ use Rattle.std.proofs.Common.{◌++◌, ◌∙◌, ap, sym, append_assoc}
 use Rattle.std.specs.List.{flat_map}
 use Rattle.text_defs.specs.Report.{head_lines, range_line, listed_line}
 use Rattle.disk_defs.specs.Stream.{taken_with}
-use Rattle.disk_defs.specs.StreamLaws.{took_prefix-within, took_prefix-last, taken_with-append, on_err}
+use Rattle.disk_defs.proofs.StreamLaws.{took_prefix-within, took_prefix-last, taken_with-append, on_err}
 use Rattle.rx_report.proofs.write_report.Goals as goal
 
 pub returns-in_err-write_ranges-clause-prefix : goal.returns-in_err-write_ranges-clause-prefix

@@ -1,6 +1,6 @@
 use Rattle.std.proofs.Common.{List, [], ap, sym, subst, ◌∙◌, arith}
 use Rattle.rx_ranges.specs.declared.pieces.Piece.{Piece}
-use Rattle.ufs_defs.specs.BlockLaws.{AreJoinedTo, content_pieces_none, joining_starts, joining_ends}
+use Rattle.ufs_defs.proofs.BlockLaws.{AreJoinedTo, content_pieces_none, joining_starts, joining_ends}
 use Rattle.first_reader.proofs.Reading.{next_grows, next_begins_anew}
 use Rattle.first_reader.proofs.content.pieces_of.Goals as goal
 use Rattle.first_reader.proofs.content.pieces_of.Goals.{then-goes_on, else-goes_on+in_ok-push}

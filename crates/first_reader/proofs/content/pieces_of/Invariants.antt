@@ -1,5 +1,5 @@
 use Rattle.std.proofs.Common.{◌*◌, ◌≤◌}
-use Rattle.ufs_defs.specs.BlockLaws.{AreJoinedTo}
+use Rattle.ufs_defs.proofs.BlockLaws.{AreJoinedTo}
 use Rattle.first_reader.proofs.content.pieces_of.Given as goal
 
 -- the pieces that are done, the begun one, and the blocks that are left are the whole

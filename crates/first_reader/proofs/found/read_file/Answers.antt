@@ -1,5 +1,5 @@
 use Rattle.std.proofs.Common.{Ok, ap, sym, ◌∙◌}
-use Rattle.volume_defs.specs.FirstReader.{run_first_file, run_first_file_no_inode, run_first_file_fault}
+use Rattle.volume_defs.proofs.FirstReader.{run_first_file, run_first_file_no_inode, run_first_file_fault}
 use Rattle.first_reader.proofs.Told.{told_map, gives_refusal}
 use Rattle.first_reader.proofs.Files.{file_is}
 use Rattle.first_reader.proofs.found.read_file.Goals as goal

@@ -1,5 +1,5 @@
 use Rattle.std.proofs.Common.{sym, ◌∙◌}
-use Rattle.volume_defs.specs.FirstReader.{run_first_inode_fault}
+use Rattle.volume_defs.proofs.FirstReader.{run_first_inode_fault}
 use Rattle.first_reader.proofs.Told.{told_all, told_map, inode_read}
 use Rattle.first_reader.proofs.found.read_inode.Goals as goal
 

@@ -1,5 +1,5 @@
 use Rattle.std.proofs.Common.{sym, ◌∙◌}
-use Rattle.volume_defs.specs.FirstReader.{run_first_root, run_first_root_fault, run_first_root_no_inode}
+use Rattle.volume_defs.proofs.FirstReader.{run_first_root, run_first_root_fault, run_first_root_no_inode}
 use Rattle.first_reader.proofs.Told.{told_map, gives_refusal}
 use Rattle.first_reader.proofs.found.read_root.Goals as goal
 

@@ -1,6 +1,6 @@
 use Rattle.std.proofs.Common.{sym, ◌∙◌, ap}
 use Rattle.image_defs.specs.Ask.{run, check}
-use Rattle.image_defs.specs.Runs.{run_bind_ok, run_bind_err}
+use Rattle.image_defs.proofs.Runs.{run_bind_ok, run_bind_err}
 use Rattle.volume_defs.specs.Kind.{kind_of}
 use Rattle.volume_defs.specs.FirstForm.{NotFirstForm, first_kind}
 use Rattle.first_reader.proofs.Told.{told_map, gives_refusal}

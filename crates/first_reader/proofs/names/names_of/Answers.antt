@@ -1,10 +1,10 @@
 use Rattle.std.proofs.Common.{List, ℕ, All, IsSorted, sym, subst, ◌∙◌}
 use Rattle.std.specs.Cmp.Lexicographic.{slice_cmp}
 use Rattle.std.specs.Ordering.{nat_cmp}
-use Rattle.order_defs.specs.DistinctLaws.{sorted_names_law}
+use Rattle.order_defs.proofs.DistinctLaws.{sorted_names_law}
 use Rattle.rx_ranges.specs.Path.{IsPath}
 use Rattle.volume_defs.specs.FirstForm.{paths_of}
-use Rattle.volume_defs.specs.FoundFiles.{first_names_are_paths}
+use Rattle.volume_defs.proofs.FoundFiles.{first_names_are_paths}
 use Rattle.first_reader.proofs.NamedEntries.{sorted_paths}
 use Rattle.first_reader.proofs.names.names_of.Goals as goal
 

@@ -2,7 +2,7 @@ use Rattle.std.proofs.Common.{◌≡◌, ◌∷◌, List, sym, subst, ap, ◌∙
 use Rattle.rx_tree.specs.Order.{HaveRisingIds}
 use Rattle.rx_tree.specs.declared.file.FileEntry.{FileEntry}
 use Rattle.volume_defs.specs.FirstForm.{root_file}
-use Rattle.volume_defs.specs.FoundFiles.{first_files_rise}
+use Rattle.volume_defs.proofs.FoundFiles.{first_files_rise}
 use Rattle.first_reader.proofs.tree.files_from.Goals as goal
 
 pub from_vec-requires : goal.from_vec-requires

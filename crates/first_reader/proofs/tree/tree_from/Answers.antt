@@ -4,7 +4,8 @@ use Rattle.rx_tree.specs.Within.{IsWithin}
 use Rattle.rx_tree.specs.declared.file.FileEntry.{FileEntry}
 use Rattle.rx_tree.specs.declared.volume.Volume.{Volume}
 use Rattle.volume_defs.specs.FirstForm.{root_file}
-use Rattle.volume_defs.specs.FoundFiles.{AreFilesOf, first_files_within, first_files_in_volume}
+use Rattle.volume_defs.specs.FoundFiles.{AreFilesOf}
+use Rattle.volume_defs.proofs.FoundFiles.{first_files_within, first_files_in_volume}
 use Rattle.volume_defs.specs.FirstTree.{tree_of, whole_volume}
 use Rattle.first_reader.proofs.TreeParts.{tree_is, tree_within}
 use Rattle.first_reader.proofs.tree.tree_from.Goals as goal

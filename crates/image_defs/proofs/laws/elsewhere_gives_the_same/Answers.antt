@@ -1,4 +1,4 @@
-use Rattle.image_defs.specs.ViaLaws.{via_law}
+use Rattle.image_defs.proofs.ViaLaws.{via_law}
 use Rattle.image_defs.proofs.laws.elsewhere_gives_the_same.Goals as goal
 
 pub returns : goal.returns

@@ -1,4 +1,4 @@
-use Rattle.image_defs.specs.ViaLaws.{via_looks_law}
+use Rattle.image_defs.proofs.ViaLaws.{via_looks_law}
 use Rattle.image_defs.proofs.laws.elsewhere_looks_at_places.Goals as goal
 
 pub returns : goal.returns

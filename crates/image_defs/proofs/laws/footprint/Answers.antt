@@ -1,4 +1,4 @@
-use Rattle.image_defs.specs.Agreement.{footprint_law}
+use Rattle.image_defs.proofs.Agreement.{footprint_law}
 use Rattle.image_defs.proofs.laws.footprint.Goals as goal
 
 pub returns : goal.returns

@@ -1,4 +1,4 @@
-use Rattle.image_defs.specs.ViaLaws.{set_law}
+use Rattle.image_defs.proofs.ViaLaws.{set_law}
 use Rattle.image_defs.proofs.laws.footprint_of_a_set.Goals as goal
 
 pub returns : goal.returns

@@ -1,4 +1,4 @@
-use Rattle.ntfs_defs.specs.DamageLaws.{decoded_damage}
+use Rattle.ntfs_defs.proofs.DamageLaws.{decoded_damage}
 use Rattle.ntfs_defs.proofs.laws.the_first_damage_is_told.Goals as goal
 
 pub returns : goal.returns

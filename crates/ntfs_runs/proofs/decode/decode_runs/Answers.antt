@@ -1,7 +1,7 @@
 use Rattle.std.proofs.Common.{Ok, arith, ap, sym, ◌∙◌}
 use Rattle.std.proofs.lemmas.Result.{err_from_is_err_and}
-use Rattle.ntfs_defs.specs.ListLaws.{run_at-place, decoding_stops, decoding_refuses, decoding_ends}
-use Rattle.ntfs_defs.specs.RunLaws.{checked_run-ok, decoded_clusters, decoded_sum, decoded_end, decoded_runs-ok}
+use Rattle.ntfs_defs.proofs.ListLaws.{run_at-place, decoding_stops, decoding_refuses, decoding_ends}
+use Rattle.ntfs_defs.proofs.RunLaws.{checked_run-ok, decoded_clusters, decoded_sum, decoded_end, decoded_runs-ok}
 use Rattle.ntfs_runs.proofs.Walk.{walk_goes_on}
 use Rattle.ntfs_runs.proofs.decode.decode_runs.Goals as goal
 

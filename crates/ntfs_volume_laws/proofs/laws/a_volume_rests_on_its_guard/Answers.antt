@@ -1,4 +1,4 @@
-use Rattle.ntfs_volume_laws.specs.VolumeLaws.{footprint_law}
+use Rattle.ntfs_volume_laws.proofs.VolumeLaws.{footprint_law}
 use Rattle.ntfs_volume_laws.proofs.laws.a_volume_rests_on_its_guard.Goals as goal
 
 pub returns : goal.returns

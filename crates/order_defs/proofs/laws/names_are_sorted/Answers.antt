@@ -1,4 +1,4 @@
-use Rattle.order_defs.specs.DistinctLaws.{sorted_names_law}
+use Rattle.order_defs.proofs.DistinctLaws.{sorted_names_law}
 use Rattle.order_defs.proofs.laws.names_are_sorted.Goals as goal
 
 pub returns : goal.returns

@@ -1,4 +1,4 @@
-use Rattle.order_defs.specs.DistinctLaws.{rising_numbers_law}
+use Rattle.order_defs.proofs.DistinctLaws.{rising_numbers_law}
 use Rattle.order_defs.proofs.laws.numbers_rise.Goals as goal
 
 pub returns : goal.returns

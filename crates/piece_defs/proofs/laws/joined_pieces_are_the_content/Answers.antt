@@ -1,4 +1,4 @@
-use Rattle.piece_defs.specs.JoinedLaws.{joined_law}
+use Rattle.piece_defs.proofs.JoinedLaws.{joined_law}
 use Rattle.piece_defs.proofs.laws.joined_pieces_are_the_content.Goals as goal
 
 pub returns : goal.returns

@@ -1,4 +1,4 @@
-use Rattle.piece_defs.specs.Put.{put_law}
+use Rattle.piece_defs.proofs.Put.{put_law}
 use Rattle.piece_defs.proofs.laws.one_more_piece_is_put.Goals as goal
 
 pub returns : goal.returns

@@ -1,4 +1,4 @@
-use Rattle.piece_defs.specs.OnePieces.{one_pieces_law}
+use Rattle.piece_defs.proofs.OnePieces.{one_pieces_law}
 use Rattle.piece_defs.proofs.laws.pieces_are_one.Goals as goal
 
 pub returns : goal.returns

@@ -1,4 +1,4 @@
-use Rattle.piece_defs.specs.ThroughLaws.{through_law}
+use Rattle.piece_defs.proofs.ThroughLaws.{through_law}
 use Rattle.piece_defs.proofs.laws.pieces_have_the_bytes.Goals as goal
 
 pub returns : goal.returns

@@ -1,6 +1,6 @@
 use Rattle.std.proofs.Common.{◌≡◌, ℕ, List}
 use Rattle.disk_defs.specs.Stream.{taken_with, TookPrefixOf}
-use Rattle.cmd_defs.specs.PlanAnswerLaw.{is_the_answer}
+use Rattle.cmd_defs.proofs.PlanAnswerLaw.{is_the_answer}
 use Rattle.redact_cmd.proofs.commands.run.Goals as goal
 
 pub returns-in-Some-Plan-clause-complete : goal.returns-in-Some-Plan-clause-complete

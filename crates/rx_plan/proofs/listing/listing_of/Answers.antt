@@ -2,7 +2,7 @@ use Rattle.std.proofs.Common.{◌≡◌, ◌∙◌, ap, subst}
 use Rattle.plan_defs.specs.Plan.{is_painted}
 use Rattle.rx_tree.specs.FoundTree.{FoundTree}
 use Rattle.rx_tree.specs.Within.{IsWithin}
-use Rattle.plan_defs.specs.PlanLaws.{file-within, file-in_reach}
+use Rattle.plan_defs.proofs.PlanLaws.{file-within, file-in_reach}
 use Rattle.rx_plan.proofs.FileLines.{lines-more}
 use Rattle.rx_plan.proofs.listing.listing_of.Goals as goal
 

@@ -3,7 +3,7 @@ use Rattle.std.proofs.lemmas.List.Elements.{All-same}
 use Rattle.range_defs.specs.Places.{EndsInReach}
 use Rattle.range_defs.specs.declared.TheConstants.{REACH}
 use Rattle.plan_defs.specs.Plan.{touched_ranges}
-use Rattle.plan_defs.specs.PlanLaws.{touched_ranges-within, touches-by_any}
+use Rattle.plan_defs.proofs.PlanLaws.{touched_ranges-within, touches-by_any}
 use Rattle.rx_plan.proofs.listing.touches.Goals as goal
 
 pub any_meets-requires : goal.any_meets-requires

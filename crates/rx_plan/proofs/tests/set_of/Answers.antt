@@ -1,7 +1,7 @@
 use Rattle.std.proofs.Common.{◌≡◌, ℕ, List, Result, Ok, Err, IfOk, ◌∙◌}
 use Rattle.range_defs.specs.declared.Range.{Range}
 use Rattle.range_defs.specs.Places.{covers, IsRangeList}
-use Rattle.range_defs.specs.RangeLaws.{ends_where_covered, covers-past}
+use Rattle.range_defs.proofs.RangeLaws.{ends_where_covered, covers-past}
 use Rattle.rx_tree.specs.Within.{AreRangesWithin}
 use Rattle.rx_plan.proofs.tests.set_of.Goals as goal
 

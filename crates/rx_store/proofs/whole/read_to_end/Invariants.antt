@@ -1,5 +1,5 @@
 use Rattle.std.proofs.Common.{◌≡◌, ◌-◌, ◌≤◌, length}
-use Rattle.disk_defs.specs.Stream.{ReadSoFar}
+use Rattle.disk_defs.proofs.Stream.{ReadSoFar}
 use Rattle.rx_store.proofs.whole.read_to_end.Given as goal
 
 -- the text so far stands before what is still to come, and no read failed

@@ -1,7 +1,7 @@
 use Rattle.std.proofs.Common.{◌≡◌, ◌+◌, false, true, Err, map, ap, ◌∙◌, arith, subst, sym, List, ℕ, ◌++◌, ◌∷◌, []}
 use Rattle.std.proofs.lemmas.List.{map-append}
 use Rattle.ufs_defs.specs.Directory.{Entry, entry_of, is_entry, record_length}
-use Rattle.ufs_defs.specs.Entries.{IsWalkedTo, walk_goes_on, walk_ends, walk_stops}
+use Rattle.ufs_defs.proofs.Entries.{IsWalkedTo, walk_goes_on, walk_ends, walk_stops}
 use Rattle.ufs_defs.proofs.directory.entry_places.Goals as goal
 
 pub returns-then-not-is_entry-clause-no_entry : goal.returns-then-not-is_entry-clause-no_entry

@@ -1,6 +1,6 @@
 use Rattle.std.proofs.Common.{◌-◌, length, map}
 use Rattle.ufs_defs.specs.Directory.{entry_of}
-use Rattle.ufs_defs.specs.Entries.{IsWalkedTo}
+use Rattle.ufs_defs.proofs.Entries.{IsWalkedTo}
 use Rattle.ufs_defs.proofs.directory.entry_places.Given as goal
 
 abbrev pub invariant-loop-at : goal.invariant-loop-at

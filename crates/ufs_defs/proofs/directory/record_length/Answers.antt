@@ -1,5 +1,5 @@
 use Rattle.std.proofs.Common.{arith}
-use Rattle.ufs_defs.specs.Entries.{entry-len, entry-inside}
+use Rattle.ufs_defs.proofs.Entries.{entry-len, entry-inside}
 use Rattle.ufs_defs.proofs.directory.record_length.Goals as goal
 
 pub u16_at-requires : goal.u16_at-requires

@@ -1,7 +1,7 @@
 use Rattle.std.proofs.Common.{◌≡◌, ◌≤◌, List, sym, ap, ◌∙◌, arith}
 use Rattle.range_defs.specs.declared.Claim.{Claim}
 use Rattle.range_defs.specs.Claims.{painted, paint_of}
-use Rattle.range_defs.specs.ClaimLaws.{paint_inside, paint_behind}
+use Rattle.range_defs.proofs.ClaimLaws.{paint_inside, paint_behind}
 use Rattle.rx_ranges.proofs.Holding.{held, held-none}
 use Rattle.rx_ranges.proofs.fills.FillMap.holds.Goals as goal
 use Rattle.rx_ranges.proofs.fills.FillMap.holds.Goals.{After-index-claim}

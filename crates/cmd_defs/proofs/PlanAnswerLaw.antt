@@ -1,0 +1,72 @@
+-- Laws behind PlanAnswerLaw: a text and an image have one answer of `plan`, and a status that says so is that answer, or a fault or want of memory.
+use Rattle.std.proofs.Common.{◌≡◌, refl, ap, ℕ, Option, Some, None, List, sym, ◌∙◌, ◌⊎◌, inl, inr}
+use Rattle.rule_defs.specs.declared.Rule.{Rule}
+use Rattle.rule_defs.proofs.ReadsLaws.{one_list_of_rules}
+use Rattle.rx_tree.specs.FoundTree.{FoundTree}
+use Rattle.plan_defs.specs.Plan.{guarded_byte, planning_rule}
+use Rattle.cmd_defs.specs.declared.status.Status.{Status}
+use Rattle.cmd_defs.specs.declared.status.Status.TheVariants.{Done, Usage, PlanRefused, DeviceFault, SourceFault, SinkFault, NoMemory, NotBuilt}
+use Rattle.cmd_defs.specs.declared.status.PlanRefusal.TheVariants.{MeetsGuard}
+use Rattle.cmd_defs.specs.Outcome.{IfBothTold}
+use Rattle.cmd_defs.specs.PlanCommand.{MeetsForms, HasReport, FillsGuard, PlanSays, PlanAnswers}
+use Rattle.cmd_defs.specs.PlanAnswerLaw.{PlanHasOneAnswer}
+
+-- what a text and an image say of rules and a tree is one thing
+one_value : {X : Type 0} (text image : List ℕ) (f : FoundTree → List Rule → X) (rules others : List Rule) (tree other : FoundTree)
+    → MeetsForms text image rules tree → MeetsForms text image others other → f tree rules ≡ f other others
+one_value text image f rules others tree other forms more =
+    let same_tree : tree ≡ other = let both = sym forms.tree_is ∙ more.tree_is in cc in
+    ap (f tree) (one_list_of_rules text rules others forms.reads more.reads) ∙ ap (λ t. f t others) same_tree
+
+done_or_guarded : (text image : List ℕ) (byte number : ℕ) → HasReport text image (λ written. Unit {0}) → FillsGuard byte number text image → ⊥
+done_or_guarded text image byte number plan filled =
+    let both : None ≡ Some byte = sym plan.3 ∙ one_value text image guarded_byte plan.0 filled.0 plan.1 filled.1 plan.2 filled.2 ∙ filled.3 in
+    cc
+
+same_refusal : (text image : List ℕ) (byte number other rule : ℕ) → FillsGuard byte number text image → FillsGuard other rule text image
+    → PlanRefused (MeetsGuard byte number) ≡ PlanRefused (MeetsGuard other rule)
+same_refusal text image byte number other rule a b =
+    let bytes : Some byte ≡ Some other = sym a.3 ∙ one_value text image guarded_byte a.0 b.0 a.1 b.1 a.2 b.2 ∙ b.3 in
+    let same : byte ≡ other = cc in
+    let numbers : Some number ≡ Some rule = sym a.4 ∙ one_value text image (λ tree rules. planning_rule rules tree byte) a.0 b.0 a.1 b.1 a.2 b.2
+    ∙ ap (planning_rule b.0 b.1) same ∙ b.4 in
+    let same_rule : number ≡ rule = cc in
+    ap (λ b. PlanRefused (MeetsGuard b number)) same ∙ ap (λ n. PlanRefused (MeetsGuard other n)) same_rule
+
+pub one_answer : PlanHasOneAnswer
+one_answer text image Done Done x y = refl
+one_answer text image Done (PlanRefused (MeetsGuard byte number)) x y = absurd (done_or_guarded text image byte number x.1 y.1)
+one_answer text image Done NotBuilt x y = absurd (y.1 x.1.0 x.1.1 x.1.2)
+one_answer text image (PlanRefused (MeetsGuard byte number)) Done x y = absurd (done_or_guarded text image byte number y.1 x.1)
+one_answer text image (PlanRefused (MeetsGuard byte number)) (PlanRefused (MeetsGuard other rule)) x y = same_refusal text image byte number other rule x.1 y.1
+one_answer text image (PlanRefused (MeetsGuard byte number)) NotBuilt x y = absurd (y.1 x.1.0 x.1.1 x.1.2)
+one_answer text image NotBuilt Done x y = absurd (x.1 y.1.0 y.1.1 y.1.2)
+one_answer text image NotBuilt (PlanRefused (MeetsGuard byte number)) x y = absurd (x.1 y.1.0 y.1.1 y.1.2)
+one_answer text image NotBuilt NotBuilt x y = refl
+one_answer text image a Usage x y = absurd y.1
+one_answer text image a DeviceFault x y = absurd y.0
+one_answer text image a SourceFault x y = absurd y.0
+one_answer text image a SinkFault x y = absurd y.0
+one_answer text image a NoMemory x y = absurd y.0
+one_answer text image Usage b x y = absurd x.1
+one_answer text image DeviceFault b x y = absurd x.0
+one_answer text image SourceFault b x y = absurd x.0
+one_answer text image SinkFault b x y = absurd x.0
+one_answer text image NoMemory b x y = absurd x.0
+
+-- where nothing failed, a status that says so is the one answer, or memory ran out
+pub is_the_answer : (text image : Option (List ℕ)) (status : Status) (store rules out : Type 0) (W P : List ℕ → Type 0)
+    → IfBothTold text image (λ t i. PlanSays status t i W P) → (status ≡ DeviceFault → store) → (status ≡ SourceFault → rules) → (status ≡ SinkFault → out)
+    → (answer : Status) → IfBothTold text image (λ t i. PlanAnswers answer t i → ¬ store → ¬ rules → ¬ out → (status ≡ answer) ⊎ (status ≡ NoMemory))
+is_the_answer None image status store rules out W P says device source sink answer = tt
+is_the_answer (Some text) None status store rules out W P says device source sink answer = tt
+is_the_answer (Some text) (Some image) Done store rules out W P says device source sink answer =
+    λ asked a b c. inl (one_answer text image Done answer (tt, (says.0, says.1, says.2, says.3, tt)) asked)
+is_the_answer (Some text) (Some image) Usage store rules out W P says device source sink answer = λ asked a b c. absurd says
+is_the_answer (Some text) (Some image) (PlanRefused (MeetsGuard byte number)) store rules out W P says device source sink answer =
+    λ asked a b c. inl (one_answer text image (PlanRefused (MeetsGuard byte number)) answer (tt, says) asked)
+is_the_answer (Some text) (Some image) DeviceFault store rules out W P says device source sink answer = λ asked a b c. absurd (a (device refl))
+is_the_answer (Some text) (Some image) SourceFault store rules out W P says device source sink answer = λ asked a b c. absurd (b (source refl))
+is_the_answer (Some text) (Some image) SinkFault store rules out W P says device source sink answer = λ asked a b c. absurd (c (sink refl))
+is_the_answer (Some text) (Some image) NoMemory store rules out W P says device source sink answer = λ asked a b c. inr refl
+is_the_answer (Some text) (Some image) NotBuilt store rules out W P says device source sink answer = λ asked a b c. inl (one_answer text image NotBuilt answer (tt, says) asked)

@@ -1,0 +1,4 @@
+pub mod DamageLaws
+pub mod ListLaws
+pub mod RunLaws
+pub mod RunRows

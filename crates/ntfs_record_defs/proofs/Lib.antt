@@ -1,0 +1,5 @@
+pub mod AttributeLaws
+pub mod LentLaws
+pub mod RecordLaws
+pub mod Rows
+pub mod StoredLaws

@@ -1,0 +1,5 @@
+pub mod GuardLaws
+pub mod HeldLaws
+pub mod MapLaws
+pub mod SlotLaws
+pub mod VolumeLaws

@@ -1,0 +1,4 @@
+pub mod AnyByte
+pub mod ClaimLaws
+pub mod LeastLaws
+pub mod RangeLaws

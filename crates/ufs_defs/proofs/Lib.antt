@@ -1,0 +1,4 @@
+pub mod BlockLaws
+pub mod Entries
+pub mod SlackLaws
+pub mod SoundSuperblock

@@ -1,0 +1,13 @@
+pub mod EachRun
+pub mod FirstFootprint
+pub mod FirstInvariants
+pub mod FirstKept
+pub mod FirstLooks
+pub mod FirstRanges
+pub mod FirstReader
+pub mod FirstTreeLaw
+pub mod FoundFiles
+pub mod GuardT
+pub mod ImageT
+pub mod RowsFiles
+pub mod RowsT
