@@ -2,7 +2,7 @@
 use Rattle.std.proofs.Common.{◌≡◌, refl, ap, ℕ, Option, Some, None, List, sym, ◌∙◌, ◌⊎◌, inl, inr}
 use Rattle.rule_defs.specs.declared.Rule.{Rule}
 use Rattle.rule_defs.proofs.ReadsLaws.{one_list_of_rules}
-use Rattle.rx_tree.specs.FoundTree.{FoundTree}
+use Rattle.rx_tree.specs.TreeValue.{TreeValue}
 use Rattle.plan_defs.specs.Plan.{guarded_byte, planning_rule}
 use Rattle.cmd_defs.specs.declared.status.Status.{Status}
 use Rattle.cmd_defs.specs.declared.status.Status.TheVariants.{Done, Usage, PlanRefused, DeviceFault, SourceFault, SinkFault, NoMemory, NotBuilt}
@@ -12,7 +12,7 @@ use Rattle.cmd_defs.specs.PlanCommand.{MeetsForms, HasReport, FillsGuard, PlanSa
 use Rattle.cmd_defs.specs.PlanAnswerLaw.{PlanHasOneAnswer}
 
 -- what a text and an image say of rules and a tree is one thing
-one_value : {X : Type 0} (text image : List ℕ) (f : FoundTree → List Rule → X) (rules others : List Rule) (tree other : FoundTree)
+one_value : {X : Type 0} (text image : List ℕ) (f : TreeValue → List Rule → X) (rules others : List Rule) (tree other : TreeValue)
     → MeetsForms text image rules tree → MeetsForms text image others other → f tree rules ≡ f other others
 one_value text image f rules others tree other forms more =
     let same_tree : tree ≡ other = let both = sym forms.tree_is ∙ more.tree_is in cc in

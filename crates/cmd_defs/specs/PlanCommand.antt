@@ -2,7 +2,7 @@
 use Rattle.std.specs.Prelude.{◌≡◌, ℕ, Some, None, Ok, List}
 use Rattle.rule_defs.specs.declared.Rule.{Rule}
 use Rattle.rule_defs.specs.Reads.{Reads}
-use Rattle.rx_tree.specs.FoundTree.{FoundTree}
+use Rattle.rx_tree.specs.TreeValue.{TreeValue}
 use Rattle.volume_defs.specs.FirstTree.{first_tree}
 use Rattle.plan_defs.specs.Plan.{plan_of, guarded_byte, planning_rule}
 use Rattle.text_defs.specs.Report.{report}
@@ -13,7 +13,7 @@ use Rattle.cmd_defs.specs.declared.status.PlanRefusal.TheVariants.{MeetsGuard}
 use Rattle.cmd_defs.specs.Outcome.{IsAnswer}
 
 -- the rule text says these rules, and the image this tree
-pub record MeetsForms (text image : List ℕ) (rules : List Rule) (tree : FoundTree) : Type 0 where
+pub record MeetsForms (text image : List ℕ) (rules : List Rule) (tree : TreeValue) : Type 0 where
   pub reads : Reads text rules
   pub tree_is : first_tree image ≡ Ok tree
 
@@ -23,18 +23,18 @@ SaysRules text = (rules : List Rule) × Reads text rules
 
 -- the text or the image has another form
 abbrev pub HasNoForm : List ℕ → List ℕ → Type 0
-HasNoForm text image = (rules : List Rule) (tree : FoundTree) → ¬ (MeetsForms text image rules tree)
+HasNoForm text image = (rules : List Rule) (tree : TreeValue) → ¬ (MeetsForms text image rules tree)
 
 -- this byte is the least of the guard that the plan fills, and this is its rule
 abbrev pub FillsGuard : ℕ → ℕ → List ℕ → List ℕ → Type 0
 FillsGuard byte number text image =
-    (rules : List Rule) × (tree : FoundTree) × MeetsForms text image rules tree × (guarded_byte tree rules ≡ Some byte)
+    (rules : List Rule) × (tree : TreeValue) × MeetsForms text image rules tree × (guarded_byte tree rules ≡ Some byte)
     × (planning_rule rules tree byte ≡ Some number)
 
 -- the text and the image have a plan that fills no byte of the guard, and this holds of its report
 abbrev pub HasReport : List ℕ → List ℕ → (List ℕ → Type 0) → Type 0
 HasReport text image P =
-    (rules : List Rule) × (tree : FoundTree) × MeetsForms text image rules tree × (guarded_byte tree rules ≡ None)
+    (rules : List Rule) × (tree : TreeValue) × MeetsForms text image rules tree × (guarded_byte tree rules ≡ None)
     × P (report (plan_of tree rules) Planned)
 
 -- What a status of `plan` says of the rule text and the image, in the order of the refusals. The two facts are of what was

@@ -77,7 +77,7 @@ fn the_words_name_the_files(rt: HostRuntime) -> Result<(), Fail> {
     let rules = place(&rt, "rules")?;
     let out = place(&rt, "out")?;
     let none = place(&rt, "none")?;
-    let folder = env::temp_dir(&rt)?;
+    let directory = env::temp_dir(&rt)?;
     fs::write(&rt, &image, &small_image(rt.alloc())?)?;
     fs::write(&rt, &rules, "FILENAME \"a\" FILL 0x58\n")?;
     let rows = [
@@ -92,7 +92,7 @@ fn the_words_name_the_files(rt: HostRuntime) -> Result<(), Fail> {
             Status::DeviceFault,
         ),
         (
-            ["plan", folder.as_str(), rules.as_str()],
+            ["plan", directory.as_str(), rules.as_str()],
             out.as_str(),
             Status::DeviceFault,
         ),
@@ -102,7 +102,7 @@ fn the_words_name_the_files(rt: HostRuntime) -> Result<(), Fail> {
             Status::SourceFault,
         ),
         (
-            ["plan", image.as_str(), folder.as_str()],
+            ["plan", image.as_str(), directory.as_str()],
             out.as_str(),
             Status::SourceFault,
         ),

@@ -10,7 +10,7 @@ use Rattle.std.proofs.lemmas.List.Elements.{All-weaker}
 use Rattle.range_defs.specs.declared.Range.{Range}
 use Rattle.range_defs.specs.Places.{EndsInReach}
 use Rattle.rx_ranges.specs.declared.pieces.Piece.{Piece}
-use Rattle.piece_defs.specs.Covering.{goes_on}
+use Rattle.piece_defs.specs.Covering.{is_contiguous}
 use Rattle.ufs_defs.specs.Inode.{is_directory, is_file}
 use Rattle.piece_defs.specs.Joined.{grown}
 use Rattle.ufs_defs.specs.Blocks.{block_size, block_count, block_piece, content_slack}
@@ -81,21 +81,21 @@ pub last_block : (size unit : ℕ) → 0 < size % unit → size / unit < div_cei
 last_block size unit left = omega (arith, left)
 
 -- a walk over the blocks, where the next piece goes on and where it begins anew
-pub next_grows : (superblock : Superblock) (inode : Inode) (done more : List Piece) (begun after next : Piece) (block : ℕ) → AreJoinedTo superblock inode done begun block → block < block_count superblock inode
-    → next ≡ block_piece superblock inode block → goes_on begun next ≡ true → more ≡ done → after ≡ grown begun next → AreJoinedTo superblock inode more after (block + 1)
-next_grows superblock inode done more begun after next block joined below is goes same grew =
+pub next_grows : (superblock : Superblock) (inode : Inode) (done more : List Piece) (current after next : Piece) (block : ℕ) → AreJoinedTo superblock inode done current block → block < block_count superblock inode
+    → next ≡ block_piece superblock inode block → is_contiguous current next ≡ true → more ≡ done → after ≡ grown current next → AreJoinedTo superblock inode more after (block + 1)
+next_grows superblock inode done more current after next block joined below is goes same grew =
     let P : List Piece → Type 0 = λ pieces. AreJoinedTo superblock inode pieces after (block + 1) in
     let Q : Piece → Type 0 = λ piece. AreJoinedTo superblock inode done piece (block + 1) in
     subst P (sym same)
-    (subst Q (sym (grew ∙ ap (λ piece. grown begun piece) is)) (joining_grows superblock inode done begun block joined below (ap (λ piece. goes_on begun piece) (sym is) ∙ goes)))
+    (subst Q (sym (grew ∙ ap (λ piece. grown current piece) is)) (joining_grows superblock inode done current block joined below (ap (λ piece. is_contiguous current piece) (sym is) ∙ goes)))
 
-pub next_begins_anew : (superblock : Superblock) (inode : Inode) (done more : List Piece) (begun after next : Piece) (block : ℕ) → AreJoinedTo superblock inode done begun block → block < block_count superblock inode
-    → next ≡ block_piece superblock inode block → goes_on begun next ≡ false → more ≡ done ++ begun ∷ [] → after ≡ next → AreJoinedTo superblock inode more after (block + 1)
-next_begins_anew superblock inode done more begun after next block joined below is apart pushed begins =
+pub next_begins_anew : (superblock : Superblock) (inode : Inode) (done more : List Piece) (current after next : Piece) (block : ℕ) → AreJoinedTo superblock inode done current block → block < block_count superblock inode
+    → next ≡ block_piece superblock inode block → is_contiguous current next ≡ false → more ≡ done ++ current ∷ [] → after ≡ next → AreJoinedTo superblock inode more after (block + 1)
+next_begins_anew superblock inode done more current after next block joined below is apart pushed begins =
     let P : List Piece → Type 0 = λ pieces. AreJoinedTo superblock inode pieces after (block + 1) in
-    let Q : Piece → Type 0 = λ piece. AreJoinedTo superblock inode (done ++ begun ∷ []) piece (block + 1) in
+    let Q : Piece → Type 0 = λ piece. AreJoinedTo superblock inode (done ++ current ∷ []) piece (block + 1) in
     subst P (sym pushed)
-    (subst Q (sym (begins ∙ is)) (joining_begins_anew superblock inode done begun block joined below (ap (λ piece. goes_on begun piece) (sym is) ∙ apart)))
+    (subst Q (sym (begins ∙ is)) (joining_begins_anew superblock inode done current block joined below (ap (λ piece. is_contiguous current piece) (sym is) ∙ apart)))
 
 -- the slack lies in the image
 pub slack_in_reach : (size : ℕ) (superblock : Superblock) (inode : Inode) → size ≤ 70368744177664 → is_first_superblock superblock ≡ true → has_content size superblock inode ≡ true

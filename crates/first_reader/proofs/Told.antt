@@ -3,7 +3,7 @@ use Rattle.std.proofs.Common.{◌≡◌, ℕ, true, false, Option, Some, None, I
 use Rattle.std.proofs.lemmas.Bool.{false≢true}
 use Rattle.std.specs.Result.{IsErr, IsErrAnd}
 use Rattle.bytes_defs.specs.Bytes.{part}
-use Rattle.image_defs.specs.Ask.{run}
+use Rattle.image_defs.specs.Ask.{result_of}
 use Rattle.ufs_defs.specs.Superblock.{superblock_of}
 use Rattle.ufs_defs.specs.Inode.{inode_place, inode_of}
 use Rattle.ufs_defs.specs.declared.superblock.Superblock.{Superblock}
@@ -42,20 +42,20 @@ gives_refusal {Y = Y} (Err other) fault found whole is same follows refuses =
 
 -- the superblock that was read
 pub superblock_read : (image bytes : List ℕ) (superblock : Superblock) → bytes ≡ part image 65536 1376 → superblock ≡ superblock_of bytes → is_first_superblock superblock ≡ true
-    → run image first_superblock ≡ Ok superblock
+    → result_of image first_superblock ≡ Ok superblock
 superblock_read image bytes superblock bytes_are is first =
     let same : superblock ≡ superblock_of (part image 65536 1376) = is ∙ ap superblock_of bytes_are in
     run_first_superblock image (ap is_first_superblock (sym same) ∙ first) ∙ ap Ok (sym same)
 
 pub superblock_refused : (image bytes : List ℕ) (superblock : Superblock) → bytes ≡ part image 65536 1376 → superblock ≡ superblock_of bytes → is_first_superblock superblock ≡ false
-    → run image first_superblock ≡ Err NotFirstForm
+    → result_of image first_superblock ≡ Err NotFirstForm
 superblock_refused image bytes superblock bytes_are is bad =
     let same : superblock ≡ superblock_of (part image 65536 1376) = is ∙ ap superblock_of bytes_are in
     run_first_superblock_fault image (ap is_first_superblock (sym same) ∙ bad)
 
 -- the inode that was read
 pub inode_read : (image bytes : List ℕ) (size : ℕ) (superblock : Superblock) (number at : ℕ) (inode : Inode) → is_first_inode size superblock number ≡ true
-    → at ≡ inode_place superblock number → bytes ≡ part image at 256 → inode ≡ inode_of bytes → run image (first_inode size superblock number) ≡ Ok inode
+    → at ≡ inode_place superblock number → bytes ≡ part image at 256 → inode ≡ inode_of bytes → result_of image (first_inode size superblock number) ≡ Ok inode
 inode_read image bytes size superblock number at inode within place bytes_are is =
     run_first_inode image size superblock number within
     ∙ ap Ok (sym (is ∙ ap inode_of (bytes_are ∙ ap (λ from. part image from 256) place)))
@@ -69,20 +69,20 @@ told_later A told later same holds = let P : Option (List ℕ) → Type 0 = λ i
 
 -- the entries of the root, where its content was read
 pub entries_read : (image content slice : List ℕ) (superblock : Superblock) (root : Inode) → slice ≡ content → content ≡ part image (block_place superblock root 0) root.size
-    → run image (first_entries superblock root) ≡ listed (entries_of slice)
+    → result_of image (first_entries superblock root) ≡ listed (entries_of slice)
 entries_read image content slice superblock root same is =
     run_first_entries image superblock root ∙ ap (λ bytes. listed (entries_of bytes)) (sym (same ∙ is))
 
 -- what is told of the entries of the root: they are those that its content lists
 abbrev pub HasEntries : ℕ → Superblock → Inode → List Entry → List ℕ → Type 0
-HasEntries size superblock root entries image = (run image (first_root size superblock) ≡ Ok root) × (run image (first_entries superblock root) ≡ Ok entries)
+HasEntries size superblock root entries image = (result_of image (first_root size superblock) ≡ Ok root) × (result_of image (first_entries superblock root) ≡ Ok entries)
 
 -- what the content of the root says
 abbrev pub ReadsContent : Superblock → Inode → List ℕ → List ℕ → Type 0
 ReadsContent superblock root content image = content ≡ part image (block_place superblock root 0) root.size
 
 pub entries_told : (told later : Option (List ℕ)) (size : ℕ) (superblock : Superblock) (root : Inode) (content slice : List ℕ) (entries : List Entry) → later ≡ told → slice ≡ content
-    → IfSome told (λ image. run image (first_root size superblock) ≡ Ok root) → IfSome later (ReadsContent superblock root content) → listed (entries_of slice) ≡ Ok entries
+    → IfSome told (λ image. result_of image (first_root size superblock) ≡ Ok root) → IfSome later (ReadsContent superblock root content) → listed (entries_of slice) ≡ Ok entries
     → IfSome told (HasEntries size superblock root entries)
 entries_told None later size superblock root content slice entries is same of_root of_content listing = tt
 entries_told (Some image) later size superblock root content slice entries is same of_root of_content listing =

@@ -9,7 +9,7 @@ use Rattle.range_defs.specs.declared.Range.{Range}
 use Rattle.range_defs.specs.Places.{covers, IsRangeList, longest_ranges}
 use Rattle.range_defs.proofs.RangeLaws.{same_range_list, same_as_longest_ranges, ends_where_covered, covers-past}
 use Rattle.rx_ranges.specs.Path.{IsPath}
-use Rattle.rx_tree.specs.FoundTree.{FoundTree}
+use Rattle.rx_tree.specs.TreeValue.{TreeValue}
 use Rattle.rx_tree.specs.Within.{AreRangesWithin, AreFilesWithin, IsWithin}
 use Rattle.rx_tree.specs.declared.file.FileEntry.{FileEntry}
 use Rattle.rx_tree.specs.declared.volume.Volume.{Volume}
@@ -72,5 +72,5 @@ tree_within size files guard reach within guarded = record {
 pub tree_is : (size : ℕ) (volumes : List Volume) (unread guard : List Range) (files all : List FileEntry) → volumes ≡ whole_volume size ∷ [] → unread ≡ [] → files ≡ all
     → tree_of size guard all ≡ record { image_len = size; volumes = volumes; unread = unread; files = files; guard = guard }
 tree_is size volumes unread guard files all whole none are =
-    let T : List Volume → List Range → List FileEntry → FoundTree = λ v u f. record { image_len = size; volumes = v; unread = u; files = f; guard = guard } in
+    let T : List Volume → List Range → List FileEntry → TreeValue = λ v u f. record { image_len = size; volumes = v; unread = u; files = f; guard = guard } in
     ap (λ v. T v [] all) (sym whole) ∙ ap (λ u. T volumes u all) (sym none) ∙ ap (λ f. T volumes unread f) (sym are)

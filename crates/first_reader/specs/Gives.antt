@@ -2,7 +2,7 @@
 use Rattle.std.specs.Prelude.{◌≡◌, Result, Ok, Err, List, Vec}
 use Rattle.disk_defs.specs.Count.{Faults, FailedIn}
 use Rattle.disk_defs.specs.declared.Area.TheVariants.{Image}
-use Rattle.rx_tree.specs.FoundTree.{FoundTree}
+use Rattle.rx_tree.specs.TreeValue.{TreeValue}
 use Rattle.volume_defs.specs.FirstForm.{FirstFault, NotFirstForm}
 use Rattle.first_reader.specs.declared.fault.FirstReadFault.{FirstReadFault}
 use Rattle.first_reader.specs.declared.fault.FirstReadFault.TheVariants.{Device, NoMemory, OtherForm}
@@ -19,7 +19,7 @@ Gives (Ok value) found = found ≡ Ok value
 Gives (Err fault) found = Refuses fault found
 
 -- the tree that is read from an image
-abbrev pub GivesTree : Result FoundTree FirstReadFault → Result FoundTree FirstFault → Type 0
+abbrev pub GivesTree : Result TreeValue FirstReadFault → Result TreeValue FirstFault → Type 0
 GivesTree result found = Gives result found
 
 -- the items that a step reads

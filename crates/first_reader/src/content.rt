@@ -1,6 +1,6 @@
 //! The content of a file of at most twelve blocks.
 ghost use Rattle.std.specs.Prelude.{◌≡◌, ◌+◌, ◌<◌, ◌≤◌, true, IfOk};
-ghost use Rattle.piece_defs.specs.Covering.{goes_on as goes_on_by};
+ghost use Rattle.piece_defs.specs.Covering.{is_contiguous as is_contiguous_by};
 ghost use Rattle.ufs_defs.specs.Blocks.{block_count, block_piece, content_pieces, content_slack, content_of as content_by};
 ghost use Rattle.volume_defs.specs.FirstForm.{is_first_superblock};
 ghost use Rattle.first_reader.specs.Content.{has_content};
@@ -14,11 +14,11 @@ use ufs_defs::inode::Inode;
 use ufs_defs::superblock::Superblock;
 
 /// Whether a piece goes on where another ends.
-fn goes_on(begun: Piece, next: Piece) -> bool
-    ensures { result ≡ goes_on_by begun next }
+fn is_contiguous(current: Piece, next: Piece) -> bool
+    ensures { result ≡ is_contiguous_by current next }
 {
-    match (begun.kind, next.kind) {
-        (PieceKind::Disk, PieceKind::Disk) => begun.at.checked_add(begun.len) == Some(next.at),
+    match (current.kind, next.kind) {
+        (PieceKind::Disk, PieceKind::Disk) => current.at.checked_add(current.len) == Some(next.at),
         (PieceKind::Zero, PieceKind::Zero) => true,
         _ => false,
     }
@@ -70,17 +70,17 @@ fn pieces_of(
     if count == 0 {
         return Ok(Pieces::from_vec(pieces));
     }
-    let mut begun = piece_at(size, superblock, inode, 0);
+    let mut current = piece_at(size, superblock, inode, 0);
     for block in 1..count {
         let next = piece_at(size, superblock, inode, block);
-        if goes_on(begun, next) {
-            begun.len += next.len;
+        if is_contiguous(current, next) {
+            current.len += next.len;
         } else {
-            pieces.push(begun)?;
-            begun = next;
+            pieces.push(current)?;
+            current = next;
         }
     }
-    pieces.push(begun)?;
+    pieces.push(current)?;
     Ok(Pieces::from_vec(pieces))
 }
 

@@ -7,7 +7,7 @@ ghost use Rattle.first_reader.specs.Content.{has_content as has_content_by};
 
 use ufs_defs::blocks::block_place;
 use ufs_defs::inode::{Inode, inode_place};
-use ufs_defs::signed::counted;
+use ufs_defs::signed::non_negative;
 use ufs_defs::superblock::Superblock;
 
 /// Whether nothing in the superblock is wrong, and a block is one fragment.
@@ -47,7 +47,7 @@ pub(crate) fn block_bytes(superblock: &Superblock) -> u64
     ensures least { 4096 ≤ result }
     ensures greatest { result ≤ 65536 }
 {
-    u64::from(counted(superblock.bsize))
+    u64::from(non_negative(superblock.bsize))
 }
 
 /// Whether a block's pointer leads to a block in the image.
@@ -56,7 +56,7 @@ fn has_block(size: u64, superblock: &Superblock, inode: &Inode, block: usize) ->
     requires { block < 12 }
     ensures { result ≡ has_block_by size superblock.now inode.now block }
 {
-    let len = u128::from(counted(superblock.bsize));
+    let len = u128::from(non_negative(superblock.bsize));
     0 < inode.direct[block] && block_place(superblock, inode, block) + len <= u128::from(size)
 }
 
@@ -100,7 +100,7 @@ pub(crate) fn may_be_root(size: u64, superblock: &Superblock, inode: &Inode) -> 
         && has_nothing_special(inode)
         && inode.size % 512 == 0
         && 512 <= inode.size
-        && inode.size <= u64::from(counted(superblock.bsize))
+        && inode.size <= u64::from(non_negative(superblock.bsize))
         && has_block(size, superblock, inode, 0)
 }
 

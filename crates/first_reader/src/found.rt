@@ -3,7 +3,7 @@ ghost use Rattle.std.specs.Prelude.{◌≡◌, ◌≤◌, true, length, IfOk, On
 ghost use Rattle.disk_defs.specs.Disk.{size_of, told_image};
 ghost use Rattle.disk_defs.specs.declared.Area.TheVariants.{Image};
 ghost use Rattle.std.specs.List.{All, list_all};
-ghost use Rattle.image_defs.specs.Ask.{run, each};
+ghost use Rattle.image_defs.specs.Ask.{result_of, each};
 ghost use Rattle.bytes_defs.specs.Bytes.{part};
 ghost use Rattle.ufs_defs.specs.Blocks.{block_place};
 ghost use Rattle.volume_defs.specs.FirstForm.{is_first_superblock, is_first_inode, is_first_root, is_first_entry, first_superblock, first_inode, first_root, first_file};
@@ -24,7 +24,7 @@ use ufs_defs::superblock::Superblock;
 /// The superblock of the image.
 pub(crate) fn read_superblock<S: Store>(store: &mut S) -> Result<Superblock, FirstReadFault>
     requires { 66912 ≤ size_of Image (S.state store.old) }
-    ensures told { IfSome (told_image (S.state store.old)) (λ image. Gives result (run image first_superblock)) }
+    ensures told { IfSome (told_image (S.state store.old)) (λ image. Gives result (result_of image first_superblock)) }
     ensures first { IfOk result (λ superblock. is_first_superblock superblock ≡ true) }
     ensures lean { result ≢ Err FirstReadFault.NoMemory }
     ensures same { S.state store.new ≡ S.state store.old }
@@ -48,7 +48,7 @@ fn read_inode<S: Store>(
 ) -> Result<Inode, FirstReadFault>
     requires size { size ≡ size_of Image (S.state store.old) }
     requires first { is_first_superblock superblock.now ≡ true }
-    ensures told { IfSome (told_image (S.state store.old)) (λ image. Gives result (run image (first_inode size superblock.now number))) }
+    ensures told { IfSome (told_image (S.state store.old)) (λ image. Gives result (result_of image (first_inode size superblock.now number))) }
     ensures within { OnOk result (is_first_inode size superblock.now number ≡ true) }
     ensures lean { result ≢ Err FirstReadFault.NoMemory }
     ensures same { S.state store.new ≡ S.state store.old }
@@ -69,7 +69,7 @@ pub(crate) fn read_root<S: Store>(
 ) -> Result<Inode, FirstReadFault>
     requires size { size ≡ size_of Image (S.state store.old) }
     requires first { is_first_superblock superblock.now ≡ true }
-    ensures told { IfSome (told_image (S.state store.old)) (λ image. Gives result (run image (first_root size superblock.now))) }
+    ensures told { IfSome (told_image (S.state store.old)) (λ image. Gives result (result_of image (first_root size superblock.now))) }
     ensures within { OnOk result (is_first_inode size superblock.now 2 ≡ true) }
     ensures root { IfOk result (λ root. is_first_root size superblock.now root ≡ true) }
     ensures lean { result ≢ Err FirstReadFault.NoMemory }
@@ -120,7 +120,7 @@ fn read_file<S: Store>(
     requires reach { size ≤ 70368744177664 }
     requires first { is_first_superblock superblock.now ≡ true }
     requires named { list_all is_first_entry entries.now ≡ true }
-    ensures told { IfSome (told_image (S.state store.old)) (λ image. Gives result (run image (first_file size superblock.now entries.now number))) }
+    ensures told { IfSome (told_image (S.state store.old)) (λ image. Gives result (result_of image (first_file size superblock.now entries.now number))) }
     ensures file { IfOk result (λ file. IsFileOf size superblock.now entries.now number file) }
     ensures same { S.state store.new ≡ S.state store.old }
     ensures counted { IsFirstCounted result (S.faults store.old) (S.faults store.new) }
@@ -145,7 +145,7 @@ pub(crate) fn read_files<S: Store>(
     requires reach { size ≤ 70368744177664 }
     requires first { is_first_superblock superblock.now ≡ true }
     requires named { list_all is_first_entry entries.now ≡ true }
-    ensures told { IfSome (told_image (S.state store.old)) (λ image. GivesItems result (run image (each (first_file size superblock.now entries.now) numbers.now))) }
+    ensures told { IfSome (told_image (S.state store.old)) (λ image. GivesItems result (result_of image (each (first_file size superblock.now entries.now) numbers.now))) }
     ensures files { IfOk result (λ files. AreFilesOf size superblock.now entries.now numbers.now files.items) }
     ensures within { OnOk result (All (λ number. is_first_inode size superblock.now number ≡ true) numbers.now) }
     ensures same { S.state store.new ≡ S.state store.old }

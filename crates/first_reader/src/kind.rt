@@ -2,7 +2,7 @@
 ghost use Rattle.std.specs.Prelude.{◌≡◌, ◌≤◌, length, IfSome, IsErrOf, ◌≢◌, Err};
 ghost use Rattle.disk_defs.specs.Disk.{size_of, told_image};
 ghost use Rattle.disk_defs.specs.declared.Area.TheVariants.{Image};
-ghost use Rattle.image_defs.specs.Ask.{run};
+ghost use Rattle.image_defs.specs.Ask.{result_of};
 ghost use Rattle.volume_defs.specs.Kind.{is_ntfs as is_ntfs_by, is_hfs as is_hfs_by, is_ufs1 as is_ufs1_by, is_ufs2 as is_ufs2_by, kind_of as kind_by, kind_behind_ntfs as kind_behind_ntfs_by, kind_behind_hfs as kind_behind_hfs_by, kind_behind_ufs1 as kind_behind_ufs1_by};
 ghost use Rattle.volume_defs.specs.FirstForm.{first_kind, is_first_kind as is_first_kind_by};
 ghost use Rattle.first_reader.specs.Gives.{Gives, IsFirstCounted};
@@ -50,7 +50,7 @@ fn is_first_kind(kind: Option<FsKind>) -> bool
 /// Tests that the image is a UFS2.
 pub(crate) fn read_kind<S: Store>(store: &mut S) -> Result<(), FirstReadFault>
     requires { 66912 ≤ size_of Image (S.state store.old) }
-    ensures told { IfSome (told_image (S.state store.old)) (λ image. Gives result (run image first_kind)) }
+    ensures told { IfSome (told_image (S.state store.old)) (λ image. Gives result (result_of image first_kind)) }
     ensures same { S.state store.new ≡ S.state store.old }
     ensures lean { result ≢ Err FirstReadFault.NoMemory }
     ensures counted { IsFirstCounted result (S.faults store.old) (S.faults store.new) }
@@ -66,7 +66,7 @@ pub(crate) fn read_kind<S: Store>(store: &mut S) -> Result<(), FirstReadFault>
 /// The kind of the image: the first whose magic fits.
 fn kind_of<S: Store>(store: &mut S) -> Result<Option<FsKind>, FirstReadFault>
     requires { 66912 ≤ size_of Image (S.state store.old) }
-    ensures told { IfSome (told_image (S.state store.old)) (λ image. Gives result (run image kind_by)) }
+    ensures told { IfSome (told_image (S.state store.old)) (λ image. Gives result (result_of image kind_by)) }
     ensures same { S.state store.new ≡ S.state store.old }
     ensures lean { result ≢ Err FirstReadFault.NoMemory }
     ensures counted { IsFirstCounted result (S.faults store.old) (S.faults store.new) }
@@ -83,7 +83,7 @@ fn kind_of<S: Store>(store: &mut S) -> Result<Option<FsKind>, FirstReadFault>
 /// The kind where the magic of NTFS doesn't fit.
 fn kind_behind_ntfs<S: Store>(store: &mut S) -> Result<Option<FsKind>, FirstReadFault>
     requires { 66912 ≤ size_of Image (S.state store.old) }
-    ensures told { IfSome (told_image (S.state store.old)) (λ image. Gives result (run image kind_behind_ntfs_by)) }
+    ensures told { IfSome (told_image (S.state store.old)) (λ image. Gives result (result_of image kind_behind_ntfs_by)) }
     ensures same { S.state store.new ≡ S.state store.old }
     ensures lean { result ≢ Err FirstReadFault.NoMemory }
     ensures counted { IsFirstCounted result (S.faults store.old) (S.faults store.new) }
@@ -99,7 +99,7 @@ fn kind_behind_ntfs<S: Store>(store: &mut S) -> Result<Option<FsKind>, FirstRead
 /// The kind where neither the magic of NTFS nor that of HFS+ fits.
 fn kind_behind_hfs<S: Store>(store: &mut S) -> Result<Option<FsKind>, FirstReadFault>
     requires { 66912 ≤ size_of Image (S.state store.old) }
-    ensures told { IfSome (told_image (S.state store.old)) (λ image. Gives result (run image kind_behind_hfs_by)) }
+    ensures told { IfSome (told_image (S.state store.old)) (λ image. Gives result (result_of image kind_behind_hfs_by)) }
     ensures same { S.state store.new ≡ S.state store.old }
     ensures lean { result ≢ Err FirstReadFault.NoMemory }
     ensures counted { IsFirstCounted result (S.faults store.old) (S.faults store.new) }
@@ -115,7 +115,7 @@ fn kind_behind_hfs<S: Store>(store: &mut S) -> Result<Option<FsKind>, FirstReadF
 /// The kind where no magic of another fits.
 fn kind_behind_ufs1<S: Store>(store: &mut S) -> Result<Option<FsKind>, FirstReadFault>
     requires { 66912 ≤ size_of Image (S.state store.old) }
-    ensures told { IfSome (told_image (S.state store.old)) (λ image. Gives result (run image kind_behind_ufs1_by)) }
+    ensures told { IfSome (told_image (S.state store.old)) (λ image. Gives result (result_of image kind_behind_ufs1_by)) }
     ensures same { S.state store.new ≡ S.state store.old }
     ensures lean { result ≢ Err FirstReadFault.NoMemory }
     ensures counted { IsFirstCounted result (S.faults store.old) (S.faults store.new) }

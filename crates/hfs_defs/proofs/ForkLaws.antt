@@ -101,22 +101,22 @@ pieces_from-placed place header size from (extent ∷ extents) some stands =
     in_front-placed place (extent_piece header size from extent) (pieces_from header size (from + extent_bytes header extent) extents)
     (record {
       plain = tt;
-      bytes = λ byte begun before. stands byte begun ∙ byte_place-first header extent extents (byte - from) some (inside byte (extent_bytes header extent) begun before);
+      bytes = λ byte current before. stands byte current ∙ byte_place-first header extent extents (byte - from) some (inside byte (extent_bytes header extent) current before);
     })
     (pieces_from-placed place header size (from + extent_bytes header extent) extents some
-    (λ byte begun.
-    stands byte (omega (arith, begun))
-    ∙ byte_place-behind header extent extents (byte - from) some (past byte (extent_bytes header extent) begun)
-    ∙ ap (byte_place header extents) (back byte (extent_bytes header extent) begun)))
+    (λ byte current.
+    stands byte (omega (arith, current))
+    ∙ byte_place-behind header extent extents (byte - from) some (past byte (extent_bytes header extent) current)
+    ∙ ap (byte_place header extents) (back byte (extent_bytes header extent) current)))
   where
     inside : (byte bytes : ℕ) → from ≤ byte → byte < from + min bytes (size - from) → byte - from < bytes
-    inside byte bytes begun before = omega (arith, begun, before)
+    inside byte bytes current before = omega (arith, current, before)
 
     past : (byte bytes : ℕ) → from + bytes ≤ byte → bytes ≤ byte - from
-    past byte bytes begun = omega (arith, begun)
+    past byte bytes current = omega (arith, current)
 
     back : (byte bytes : ℕ) → from + bytes ≤ byte → byte - from - bytes ≡ byte - (from + bytes)
-    back byte bytes begun = omega (arith, begun)
+    back byte bytes current = omega (arith, current)
 
 -- the pieces of a fork cover it in order, are as long as possible, and have each byte where it stands
 abbrev pub PiecesLaw : Type 0
@@ -128,7 +128,7 @@ unfolding pieces_of
 pieces_law header size extents some enough =
     joined_law (byte_place header extents) size (pieces_from header size 0 extents)
     (let P : ℕ → Type 0 = λ from. AreInARow from size (pieces_from header size 0 extents) in subst P none_before (pieces_from-row header size 0 extents (omega (arith, enough))))
-    (pieces_from-placed (byte_place header extents) header size 0 extents some (λ byte begun. ap (byte_place header extents) (same byte)))
+    (pieces_from-placed (byte_place header extents) header size 0 extents some (λ byte current. ap (byte_place header extents) (same byte)))
   where
     none_before : min 0 size ≡ 0
     none_before = omega arith

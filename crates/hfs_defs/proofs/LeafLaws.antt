@@ -20,8 +20,8 @@ no_more file link n behind is = rw (eqb_zero n is) refl
     eqb_zero : (n : ℕ) → n ≡ 0 → (n == 0) ≡ true
     eqb_zero n is = (Decides-eqb n 0).1 is
 
-pub goes_on : (file : TreeFile) (link n : ℕ) (behind : LeafList) → IsGoodNode file n → chain_step file link n behind ≡ followed_by (leaves_in file n) behind
-goes_on file link n behind good =
+pub is_contiguous : (file : TreeFile) (link n : ℕ) (behind : LeafList) → IsGoodNode file n → chain_step file link n behind ≡ followed_by (leaves_in file n) behind
+is_contiguous file link n behind good =
     let some : 0 < n = good.some in
     let other : (n == 0) ≡ false = grind (arith, nat_tests) in
     rw (other, good.leaf, good.sound) refl
@@ -41,7 +41,7 @@ ended_by file (suc left) link n is = no_more file link n (chain_within left file
 next_step : (file : TreeFile) (left link n : ℕ) → IsGoodNode file n
     → chain_within (suc left) file link n ≡ followed_by (leaves_in file n) (chain_within left file (node_place file n) (next_node (node_in file n)))
 unfolding chain_within
-next_step file left link n good = goes_on file link n (chain_within left file (node_place file n) (next_node (node_in file n))) good
+next_step file left link n good = is_contiguous file link n (chain_within left file (node_place file n) (next_node (node_in file n))) good
 
 chain_gives : (file : TreeFile) (left link n : ℕ) (nodes : List ℕ) (last : ℕ) → LeadsTo file link n nodes last 0 → length nodes ≤ left
     → chain_within left file link n ≡ record { records = flat_map (leaves_in file) nodes; stop = None }

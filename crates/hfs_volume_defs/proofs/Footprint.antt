@@ -10,19 +10,19 @@ use Rattle.range_defs.specs.declared.Range.{Range}
 use Rattle.range_defs.specs.Places.{in_range, covers, longest_ranges}
 use Rattle.range_defs.proofs.RangeLaws.{longest_ranges_covers}
 use Rattle.bytes_defs.specs.Bytes.{part}
-use Rattle.image_defs.specs.Ask.{Ask, Done, run, visits, ◌>>=◌, look, check, given, each}
+use Rattle.image_defs.specs.Ask.{Ask, Done, result_of, visits, ◌>>=◌, look, check, given, each}
 use Rattle.image_defs.specs.Agreement.{AgreeOn}
-use Rattle.image_defs.proofs.Agreement.{run_agree}
+use Rattle.image_defs.proofs.Agreement.{result_agree}
 use Rattle.image_defs.specs.Looks.{LooksAt}
 use Rattle.image_defs.proofs.Looks.{looks_nowhere, looks_done, looks_bind, looks_check, looks_look, looks_given, bind_gives, check_gives}
 use Rattle.image_defs.specs.Runs.{each_result}
-use Rattle.image_defs.proofs.Runs.{run_given, visits_check}
+use Rattle.image_defs.proofs.Runs.{result_given, visits_check}
 use Rattle.image_defs.specs.ViaLaws.{LiesIn}
 use Rattle.image_defs.proofs.ViaLaws.{agree_on_looks}
 use Rattle.rx_ranges.specs.declared.pieces.Piece.{Piece}
 use Rattle.rx_ranges.specs.declared.pieces.PieceKind.{PieceKind}
 use Rattle.rx_ranges.specs.declared.pieces.PieceKind.TheVariants.{Disk, Zero}
-use Rattle.rx_tree.specs.FoundTree.{FoundTree}
+use Rattle.rx_tree.specs.TreeValue.{TreeValue}
 use Rattle.rx_tree.specs.declared.file.FileEntry.{FileEntry}
 use Rattle.piece_defs.specs.Places.{of_kind, IsPlaced}
 use Rattle.hfs_defs.specs.Header.{header_of, is_magic, is_block_size, wrong_field, checked, volume_header}
@@ -132,7 +132,7 @@ unfolding fork_leaves tree_leaves
 leaves_look P image header records fork place some guarded =
     looks_bind P image (given (found_fork header records fork place)) (λ found. tree_leaves place found.pieces) (looks_given P image (found_fork header records fork place))
     (λ found is. looks_bind P image (look_through found.pieces) (λ bytes. Done (leaves_of (tree_file bytes found.pieces place)))
-    (through_looks P image header records fork place found some (sym (run_given image (found_fork header records fork place)) ∙ is) guarded)
+    (through_looks P image header records fork place found some (sym (result_given image (found_fork header records fork place)) ∙ is) guarded)
     (λ bytes are. looks_done P image (leaves_of (tree_file bytes found.pieces place))))
 
 -- ---- the guard has them
@@ -209,13 +209,13 @@ checked_gives at len bytes header is = either (wrong_field (header_of at len byt
         let P : Header → Type 0 = λ h. IsRead at h in
         subst P (same_header (header_of at len bytes) header same) (record { same_at = same_place; some = some_bytes (header_of at len bytes) is })
 
-header_read : (image : List ℕ) (at len : ℕ) (header : Header) → run image (volume_header at len) ≡ Ok header → IsRead at header
+header_read : (image : List ℕ) (at len : ℕ) (header : Header) → result_of image (volume_header at len) ≡ Ok header → IsRead at header
 unfolding volume_header
 header_read image at len header gives =
     let enough = check_gives image (nat_le 1028 len) NotThis _ header gives in
     let fits = check_gives image (is_magic (part image (at + 1024) 4)) NotThis _ header enough.1 in
     let long = check_gives image (nat_le 2560 len) (Damaged HeaderField (at + 1024)) _ header fits.1 in
-    checked_gives at len (part image (at + 1024) 512) header (sym (run_given image (checked (header_of at len (part image (at + 1024) 512)) (wrong_field (header_of at len (part image (at + 1024) 512))))) ∙ long.1)
+    checked_gives at len (part image (at + 1024) 512) header (sym (result_given image (checked (header_of at len (part image (at + 1024) 512)) (wrong_field (header_of at len (part image (at + 1024) 512))))) ∙ long.1)
 
 -- what a header is asked for
 header_rest : ℕ → ℕ → Ask Refusal Header
@@ -287,7 +287,7 @@ same_value : {X : Type 0} (first second : X) → (let x : Result X Refusal = Ok 
 same_value first second same = cc
 
 below_looks : (image : List ℕ) (size volume : ℕ) (header : Header) (overflow : List OverflowRecord) → 0 < header.block_size
-    → run image (volume_overflow header) ≡ Ok overflow → LooksAt (IsCovered (guard_ranges header overflow)) image (tree_below size volume header)
+    → result_of image (volume_overflow header) ≡ Ok overflow → LooksAt (IsCovered (guard_ranges header overflow)) image (tree_below size volume header)
 unfolding tree_below
 below_looks image size volume header overflow some is =
     let P : Range → Type 0 = IsCovered (guard_ranges header overflow) in
@@ -303,18 +303,18 @@ below_looks image size volume header overflow some is =
     (λ files those. looks_done P image (tree_with size volume header overflow files)))))
 
 -- a tree that was found: the header and the overflow records of its volume, and its guard
-record IsFound (image : List ℕ) (at len volume : ℕ) (tree : FoundTree) : Type 0 where
+record IsFound (image : List ℕ) (at len volume : ℕ) (tree : TreeValue) : Type 0 where
   header : Header
-  read : run image (volume_header at len) ≡ Ok header
+  read : result_of image (volume_header at len) ≡ Ok header
   overflow : List OverflowRecord
-  found : run image (volume_overflow header) ≡ Ok overflow
+  found : result_of image (volume_overflow header) ≡ Ok overflow
   guard : tree.guard ≡ longest_ranges (covers (guard_ranges header overflow)) 0 (length image)
 
-tree_found : (image : List ℕ) (at len volume : ℕ) (tree : FoundTree) → run image (volume_tree (length image) at len volume) ≡ Ok tree → IsFound image at len volume tree
+tree_found : (image : List ℕ) (at len volume : ℕ) (tree : TreeValue) → result_of image (volume_tree (length image) at len volume) ≡ Ok tree → IsFound image at len volume tree
 unfolding volume_tree tree_below guard_of
 tree_found image at len volume tree gives =
     let size : ℕ = length image in
-    let files_of : Header → List OverflowRecord → List Entry → Ask Refusal FoundTree = λ header overflow entries. volume_files volume header overflow entries >>= (λ files. Done (tree_with size volume header overflow files)) in
+    let files_of : Header → List OverflowRecord → List Entry → Ask Refusal TreeValue = λ header overflow entries. volume_files volume header overflow entries >>= (λ files. Done (tree_with size volume header overflow files)) in
     let first = bind_gives image (volume_header at len) (λ header. check (nat_le size longest_image) (Limit Image longest_image) >>= (λ short. tree_below size volume header)) tree gives in
     let header : Header = first.0 in
     let short = check_gives image (nat_le size longest_image) (Limit Image longest_image) (λ short. tree_below size volume header) tree first.2 in
@@ -330,7 +330,7 @@ tree_found image at len volume tree gives =
       guard = ap (λ found. found.guard) (sym (same_value (tree_with size volume header overflow fourth.0) tree fourth.2));
     }
 
-tree_looks : (image : List ℕ) (size at len volume : ℕ) (header : Header) (overflow : List OverflowRecord) → run image (volume_header at len) ≡ Ok header → run image (volume_overflow header) ≡ Ok overflow
+tree_looks : (image : List ℕ) (size at len volume : ℕ) (header : Header) (overflow : List OverflowRecord) → result_of image (volume_header at len) ≡ Ok header → result_of image (volume_overflow header) ≡ Ok overflow
     → LooksAt (IsCovered (guard_ranges header overflow)) image (volume_tree size at len volume)
 unfolding volume_tree
 tree_looks image size at len volume header overflow read found =
@@ -356,9 +356,9 @@ pub hfs_footprint_law : HfsFootprintLaw
 hfs_footprint_law a b at len volume tree gives agree =
     let found = tree_found a at len volume tree gives in
     let guard : List Range = guard_ranges found.header found.overflow in
-    let ask : Ask Refusal FoundTree = volume_tree (length a) at len volume in
+    let ask : Ask Refusal TreeValue = volume_tree (length a) at len volume in
     let P : List Range → Type 0 = λ ranges. AgreeOn ranges a b in
     let same : AgreeOn (visits a ask) a b =
     agree_on_looks (λ byte. IsTrue (covers guard byte)) ask a b agree.same_length (guard_agrees guard a b (subst P found.guard agree))
     (tree_looks a (length a) at len volume found.header found.overflow found.read found.found) in
-    ap (λ size. run b (volume_tree size at len volume)) (sym agree.same_length) ∙ run_agree ask a b same ∙ gives
+    ap (λ size. result_of b (volume_tree size at len volume)) (sym agree.same_length) ∙ result_agree ask a b same ∙ gives

@@ -3,7 +3,7 @@ use Rattle.std.specs.Prelude.{◌≡◌, ℕ, ◌+◌, ◌-◌, false, Result, O
 use Rattle.std.specs.Int.Count.{ones}
 use Rattle.range_defs.specs.declared.Range.{Range}
 use Rattle.range_defs.specs.Places.{longest_ranges}
-use Rattle.image_defs.specs.Ask.{run}
+use Rattle.image_defs.specs.Ask.{result_of}
 use Rattle.bytes_defs.specs.Bytes.{part}
 use Rattle.bytes_defs.specs.Numbers.{number_at}
 use Rattle.std.specs.Char.{encode_utf8}
@@ -13,7 +13,7 @@ use Rattle.name_defs.specs.Texts.{items_text}
 use Rattle.name_defs.specs.Items.{item_of_units, unit_items}
 use Rattle.rx_ranges.specs.declared.pieces.PieceKind.TheVariants.{Disk}
 use Rattle.fault_defs.specs.declared.Refusal.{Refusal}
-use Rattle.rx_tree.specs.FoundTree.{FoundTree}
+use Rattle.rx_tree.specs.TreeValue.{TreeValue}
 use Rattle.rx_tree.specs.declared.part.Role.TheVariants.{Content}
 use Rattle.rx_tree.specs.declared.file.FileEntry.{FileEntry}
 use Rattle.rx_tree.specs.declared.file.Kind.TheVariants.{File, Dir, System}
@@ -94,7 +94,7 @@ links_files =
 links_guard : List Range
 links_guard = record { at = 0; len = 1536 } ∷ record { at = 4096; len = 512 } ∷ record { at = 5120; len = 3072 } ∷ record { at = 19456; len = 1024 } ∷ []
 
-links_tree : run links_image (volume_tree 20480 0 20480 0) ≡ Ok (record { image_len = 20480; volumes = record { number = 0; kind = HfsPlus; at = 0; len = 20480 } ∷ []; unread = []; files = links_files; guard = links_guard })
+links_tree : result_of links_image (volume_tree 20480 0 20480 0) ≡ Ok (record { image_len = 20480; volumes = record { number = 0; kind = HfsPlus; at = 0; len = 20480 } ∷ []; unread = []; files = links_files; guard = links_guard })
 unfolding links_image links_files links_guard encode_utf8 digits hex_digit byte_escape unit_escape word_spelling name_spelling item_of_units part number_at ones items_text unit_items sorted_by_order longest_ranges header_of fork_of wrong_field is_block_size volume_header records_of fork_fault pieces_of slack_of found_fork is_tree is_node_size is_sound_node is_record leaves_of chain_within leaves_of_node is_leaf_in is_overflow_record checked_overflow has_name record_kind checked_entry path_within folder_path named_file fork_part entry_file special_file look_through tree_leaves fork_leaves volume_overflow volume_entries sound_entries names_within guard_of files_within volume_files tree_below volume_tree
 links_tree = refl
 
@@ -145,13 +145,13 @@ plain_files =
 plain_guard : List Range
 plain_guard = record { at = 0; len = 1536 } ∷ record { at = 4096; len = 512 } ∷ record { at = 5120; len = 2048 } ∷ record { at = 19456; len = 1024 } ∷ []
 
-plain_tree : run plain_image (volume_tree 20480 0 20480 0) ≡ Ok (record { image_len = 20480; volumes = record { number = 0; kind = HfsPlus; at = 0; len = 20480 } ∷ []; unread = []; files = plain_files; guard = plain_guard })
+plain_tree : result_of plain_image (volume_tree 20480 0 20480 0) ≡ Ok (record { image_len = 20480; volumes = record { number = 0; kind = HfsPlus; at = 0; len = 20480 } ∷ []; unread = []; files = plain_files; guard = plain_guard })
 unfolding plain_image plain_files plain_guard encode_utf8 digits hex_digit byte_escape unit_escape word_spelling name_spelling item_of_units part number_at ones items_text unit_items sorted_by_order longest_ranges header_of fork_of wrong_field is_block_size volume_header records_of fork_fault pieces_of slack_of found_fork is_tree is_node_size is_sound_node is_record leaves_of chain_within leaves_of_node is_leaf_in is_overflow_record checked_overflow has_name record_kind checked_entry path_within folder_path named_file fork_part entry_file special_file look_through tree_leaves fork_leaves volume_overflow volume_entries sound_entries names_within guard_of files_within volume_files tree_below volume_tree
 plain_tree = refl
 
 -- what the volume says where a byte of it is another one
-abbrev with_byte : ℕ → ℕ → Result FoundTree Refusal
-with_byte at byte = run (slice_set plain_image at byte) (volume_tree 20480 0 20480 0)
+abbrev with_byte : ℕ → ℕ → Result TreeValue Refusal
+with_byte at byte = result_of (slice_set plain_image at byte) (volume_tree 20480 0 20480 0)
 
 -- the signature is another one; a block has no byte; the extents file has two blocks, and one in its extents
 header_refused : (with_byte 1024 0 ≡ Err NotThis) × (with_byte 1066 0 ≡ Err (Damaged HeaderField 1064)) × (with_byte 1231 2 ≡ Err (Unsupported ExtentsFork 1216))

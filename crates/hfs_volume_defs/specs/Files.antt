@@ -1,7 +1,7 @@
 -- The files of a volume: their names, and their forks as parts.
 use Rattle.std.specs.Prelude.{ℕ, ◌+◌, ◌*◌, Bool, false, not, ◌||◌, ◌==◌, if◌then◌else◌, bit_and, Option, Some, None, Result, Ok, Err, List, [], ◌∷◌, ◌++◌, decimal, codes}
 use Rattle.image_defs.specs.Runs.{with_value, each_result}
-use Rattle.rx_tree.specs.FoundPart.{FoundPart}
+use Rattle.rx_tree.specs.PartValue.{PartValue}
 use Rattle.rx_tree.specs.declared.part.Role.TheVariants.{Content}
 use Rattle.rx_tree.specs.declared.file.FileEntry.{FileEntry}
 use Rattle.rx_tree.specs.declared.file.Kind.{Kind}
@@ -50,7 +50,7 @@ abbrev pub block_bytes : Header → Fork → ℕ
 block_bytes header fork = fork.total_blocks * header.block_size
 
 -- the part that a fork is, of a file whose contents can't be read or can
-abbrev pub part_with : Header → List OverflowRecord → Fork → Bool → List ℕ → FoundPart
+abbrev pub part_with : Header → List OverflowRecord → Fork → Bool → List ℕ → PartValue
 part_with header records fork unreadable name = record {
   role = Content;
   name = name;
@@ -61,7 +61,7 @@ part_with header records fork unreadable name = record {
 }
 
 -- the part that a file's fork is, whose fork data stand at a place
-unfoldable pub fork_part : Header → List OverflowRecord → ℕ → ℕ → Fork → ℕ → Bool → List ℕ → Result FoundPart Refusal
+unfoldable pub fork_part : Header → List OverflowRecord → ℕ → ℕ → Fork → ℕ → Bool → List ℕ → Result PartValue Refusal
 fork_part header overflow file fork_type fork place unreadable name =
     unless (fork_fault header (records_of overflow file fork_type) fork place) (part_with header (records_of overflow file fork_type) fork unreadable name)
 
@@ -74,7 +74,7 @@ followed (Ok x) rest = with_value (λ xs. x ∷ xs) rest
 followed (Err e) rest = Err e
 
 -- the data fork, and the resource fork where it has bytes or blocks
-abbrev pub fork_parts : Header → List OverflowRecord → Entry → Option FileInfo → Result (List FoundPart) Refusal
+abbrev pub fork_parts : Header → List OverflowRecord → Entry → Option FileInfo → Result (List PartValue) Refusal
 fork_parts header overflow entry None = Ok []
 fork_parts header overflow entry (Some info) =
     followed (fork_part header overflow entry.id 0 info.data_fork (entry.body_at + 88) (is_unreadable entry) [])
@@ -92,7 +92,7 @@ abbrev pub kind_of_entry : Entry → Kind
 kind_of_entry entry = if is_folder entry then Dir else kind_of_bits (bit_and entry.mode 0xF000)
 
 -- the file of an entry; its mode, owner, group and times are the entry's
-abbrev pub file_with : ℕ → NamedEntry → List FoundPart → FileEntry
+abbrev pub file_with : ℕ → NamedEntry → List PartValue → FileEntry
 file_with volume named parts = record {
   id = record { volume = volume; number = named.entry.id };
   kind = kind_of_entry named.entry;

@@ -3,10 +3,10 @@ use Rattle.std.specs.Prelude.{◌≡◌, ℕ, ◌+◌, ◌-◌, nat_le, Option, 
 use Rattle.std.specs.List.{flat_map, sum_by}
 use Rattle.range_defs.specs.declared.Range.{Range}
 use Rattle.range_defs.specs.Places.{covers, longest_ranges}
-use Rattle.image_defs.specs.Ask.{Ask, Done, Stop, run, check, given, ◌>>=◌, ◌>>◌}
+use Rattle.image_defs.specs.Ask.{Ask, Done, Stop, result_of, check, given, ◌>>=◌, ◌>>◌}
 use Rattle.image_defs.specs.Agreement.{AgreeOn}
 use Rattle.image_defs.specs.Runs.{each_result}
-use Rattle.rx_tree.specs.FoundTree.{FoundTree}
+use Rattle.rx_tree.specs.TreeValue.{TreeValue}
 use Rattle.rx_tree.specs.declared.file.FileEntry.{FileEntry}
 use Rattle.rx_tree.specs.declared.volume.FsKind.TheVariants.{HfsPlus}
 use Rattle.order_defs.specs.Sorted.{sorted_by}
@@ -90,7 +90,7 @@ guard_of size header overflow = longest_ranges (covers (guard_ranges header over
 
 -- ---- the tree
 
-abbrev pub tree_with : ℕ → ℕ → Header → List OverflowRecord → List FileEntry → FoundTree
+abbrev pub tree_with : ℕ → ℕ → Header → List OverflowRecord → List FileEntry → TreeValue
 tree_with size volume header overflow files = record {
   image_len = size;
   volumes = record { number = volume; kind = HfsPlus; at = header.at; len = header.len } ∷ [];
@@ -116,7 +116,7 @@ volume_files volume header overflow entries = do
   files_within volume header overflow named
 
 -- the tree of a volume with this header
-unfoldable pub tree_below : ℕ → ℕ → Header → Ask Refusal FoundTree
+unfoldable pub tree_below : ℕ → ℕ → Header → Ask Refusal TreeValue
 tree_below size volume header = do
   overflow ← volume_overflow header
   entries ← volume_entries header overflow
@@ -124,7 +124,7 @@ tree_below size volume header = do
   Done (tree_with size volume header overflow files)
 
 -- the tree of a volume of `len` bytes at `at` in an image of `size` bytes
-unfoldable pub volume_tree : ℕ → ℕ → ℕ → ℕ → Ask Refusal FoundTree
+unfoldable pub volume_tree : ℕ → ℕ → ℕ → ℕ → Ask Refusal TreeValue
 volume_tree size at len volume = do
   header ← volume_header at len
   check (nat_le size longest_image) (Limit Image longest_image)
@@ -132,5 +132,5 @@ volume_tree size at len volume = do
 
 -- the law of the footprint: an image that has the same length and the same bytes in the guard has the same tree
 abbrev pub HfsFootprintLaw : Type 0
-HfsFootprintLaw = (a b : List ℕ) (at len volume : ℕ) (tree : FoundTree) → run a (volume_tree (length a) at len volume) ≡ Ok tree → AgreeOn tree.guard a b
-    → run b (volume_tree (length b) at len volume) ≡ Ok tree
+HfsFootprintLaw = (a b : List ℕ) (at len volume : ℕ) (tree : TreeValue) → result_of a (volume_tree (length a) at len volume) ≡ Ok tree → AgreeOn tree.guard a b
+    → result_of b (volume_tree (length b) at len volume) ≡ Ok tree

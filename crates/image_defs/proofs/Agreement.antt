@@ -7,7 +7,7 @@ use Rattle.std.proofs.lemmas.Option.{unwrap_or-slice_get}
 use Rattle.range_defs.specs.declared.Range.{Range}
 use Rattle.range_defs.specs.Places.{covers}
 use Rattle.bytes_defs.specs.Bytes.{part}
-use Rattle.image_defs.specs.Ask.{Ask, Done, Stop, Look, run, visits}
+use Rattle.image_defs.specs.Ask.{Ask, Done, Stop, Look, result_of, visits}
 use Rattle.image_defs.specs.Agreement.{AgreeOn, FootprintLaw}
 
 -- a byte of a range in front is covered
@@ -43,12 +43,12 @@ part_first range ranges a b agree =
     (λ byte from to. agree.same_bytes byte (covers_first range ranges byte from to))
 
 -- the law of the footprint: where two images agree on what a program looks at, the program gives the same
-pub run_agree : {E X : Type 0} (ask : Ask E X) (a b : List ℕ) → AgreeOn (visits a ask) a b → run b ask ≡ run a ask
-run_agree (Done x) a b agree = refl
-run_agree (Stop e) a b agree = refl
-run_agree (Look at len next) a b agree =
-    ap (λ bytes. run b (next bytes)) (sym (part_first (record { at = at; len = len }) (visits a (next (part a at len))) a b agree))
-    ∙ run_agree (next (part a at len)) a b (agree_behind (record { at = at; len = len }) (visits a (next (part a at len))) a b agree)
+pub result_agree : {E X : Type 0} (ask : Ask E X) (a b : List ℕ) → AgreeOn (visits a ask) a b → result_of b ask ≡ result_of a ask
+result_agree (Done x) a b agree = refl
+result_agree (Stop e) a b agree = refl
+result_agree (Look at len next) a b agree =
+    ap (λ bytes. result_of b (next bytes)) (sym (part_first (record { at = at; len = len }) (visits a (next (part a at len))) a b agree))
+    ∙ result_agree (next (part a at len)) a b (agree_behind (record { at = at; len = len }) (visits a (next (part a at len))) a b agree)
 
 -- and it looks at the same ranges
 pub visits_agree : {E X : Type 0} (ask : Ask E X) (a b : List ℕ) → AgreeOn (visits a ask) a b → visits b ask ≡ visits a ask
@@ -59,4 +59,4 @@ visits_agree (Look at len next) a b agree =
     ∙ ap (λ ranges. record { at = at; len = len } ∷ ranges) (visits_agree (next (part a at len)) a b (agree_behind (record { at = at; len = len }) (visits a (next (part a at len))) a b agree))
 
 pub footprint_law : (E X : Type 0) → FootprintLaw E X
-footprint_law E X ask a b agree = (run_agree ask a b agree, visits_agree ask a b agree)
+footprint_law E X ask a b agree = (result_agree ask a b agree, visits_agree ask a b agree)

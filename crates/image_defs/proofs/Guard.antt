@@ -6,9 +6,9 @@ use Rattle.std.proofs.lemmas.Option.{slice_get_past}
 use Rattle.range_defs.specs.declared.Range.{Range}
 use Rattle.range_defs.specs.Places.{covers, IsRangeList, longest_ranges}
 use Rattle.range_defs.proofs.RangeLaws.{EndsBy, covers-past, longest_ranges_covers, ends_where_covered, same_as_longest_ranges}
-use Rattle.image_defs.specs.Ask.{Ask, run, visits}
+use Rattle.image_defs.specs.Ask.{Ask, result_of, visits}
 use Rattle.image_defs.specs.Agreement.{AgreeOn}
-use Rattle.image_defs.proofs.Agreement.{run_agree, visits_agree}
+use Rattle.image_defs.proofs.Agreement.{result_agree, visits_agree}
 use Rattle.image_defs.specs.Looks.{LooksAt}
 
 -- the bytes of an image that a program looks at, as the longest ranges
@@ -32,8 +32,8 @@ looked_at-agree a b ask agree = record {
 }
 
 -- so a program gives the same on them, and looks at the same bytes
-pub run_guarded : {E X : Type 0} (a b : List ℕ) (ask : Ask E X) → AgreeOn (looked_at a ask) a b → run b ask ≡ run a ask
-run_guarded a b ask agree = run_agree ask a b (looked_at-agree a b ask agree)
+pub result_guarded : {E X : Type 0} (a b : List ℕ) (ask : Ask E X) → AgreeOn (looked_at a ask) a b → result_of b ask ≡ result_of a ask
+result_guarded a b ask agree = result_agree ask a b (looked_at-agree a b ask agree)
 
 pub looked_at_guarded : {E X : Type 0} (a b : List ℕ) (ask : Ask E X) → AgreeOn (looked_at a ask) a b → looked_at b ask ≡ looked_at a ask
 unfolding looked_at

@@ -3,13 +3,13 @@ use Rattle.std.specs.Prelude.{◌≡◌, ℕ, Bool, true, false, Result, Ok, Err
 use Rattle.std.proofs.Common.{ap, ◌∙◌}
 use Rattle.range_defs.specs.declared.Range.{Range}
 use Rattle.bytes_defs.specs.Bytes.{part}
-use Rattle.image_defs.specs.Ask.{Ask, Done, Stop, Look, run, visits, ◌>>=◌, check, given, each}
+use Rattle.image_defs.specs.Ask.{Ask, Done, Stop, Look, result_of, visits, ◌>>=◌, check, given, each}
 use Rattle.image_defs.specs.Runs.{each_result, in_front_of, with_value}
 
 -- what the next program gives after a first result: a fault stays, and a value goes on
-abbrev pub run_next : {E X Y : Type 0} → List ℕ → Result X E → (X → Ask E Y) → Result Y E
-run_next image (Ok x) next = run image (next x)
-run_next image (Err e) next = Err e
+abbrev pub result_next : {E X Y : Type 0} → List ℕ → Result X E → (X → Ask E Y) → Result Y E
+result_next image (Ok x) next = result_of image (next x)
+result_next image (Err e) next = Err e
 
 -- the ranges that the next program looks at after a first result: none after a fault
 abbrev pub visits_next : {E X Y : Type 0} → List ℕ → Result X E → (X → Ask E Y) → List Range
@@ -17,21 +17,21 @@ visits_next image (Ok x) next = visits image (next x)
 visits_next image (Err e) next = []
 
 -- two programs in a row give what the second gives after the first
-pub run_bind : {E X Y : Type 0} (image : List ℕ) (ask : Ask E X) (next : X → Ask E Y) → run image (ask >>= next) ≡ run_next image (run image ask) next
-run_bind image (Done x) next = refl
-run_bind image (Stop e) next = refl
-run_bind image (Look at len more) next = run_bind image (more (part image at len)) next
+pub result_bind : {E X Y : Type 0} (image : List ℕ) (ask : Ask E X) (next : X → Ask E Y) → result_of image (ask >>= next) ≡ result_next image (result_of image ask) next
+result_bind image (Done x) next = refl
+result_bind image (Stop e) next = refl
+result_bind image (Look at len more) next = result_bind image (more (part image at len)) next
 
 -- where the first program gives a value, both give what the second gives for it
-pub run_bind_ok : {E X Y : Type 0} (image : List ℕ) (ask : Ask E X) (next : X → Ask E Y) (x : X) → run image ask ≡ Ok x → run image (ask >>= next) ≡ run image (next x)
-run_bind_ok image ask next x is = run_bind image ask next ∙ ap (λ r. run_next image r next) is
+pub result_bind_ok : {E X Y : Type 0} (image : List ℕ) (ask : Ask E X) (next : X → Ask E Y) (x : X) → result_of image ask ≡ Ok x → result_of image (ask >>= next) ≡ result_of image (next x)
+result_bind_ok image ask next x is = result_bind image ask next ∙ ap (λ r. result_next image r next) is
 
 -- where the first program gives a fault, both give it
-pub run_bind_err : {E X Y : Type 0} (image : List ℕ) (ask : Ask E X) (next : X → Ask E Y) (e : E) → run image ask ≡ Err e → run image (ask >>= next) ≡ Err e
-run_bind_err image ask next e is = run_bind image ask next ∙ ap (λ r. run_next image r next) is
+pub result_bind_err : {E X Y : Type 0} (image : List ℕ) (ask : Ask E X) (next : X → Ask E Y) (e : E) → result_of image ask ≡ Err e → result_of image (ask >>= next) ≡ Err e
+result_bind_err image ask next e is = result_bind image ask next ∙ ap (λ r. result_next image r next) is
 
 -- two programs in a row look at what the first looks at, and then at what the second does
-pub visits_bind : {E X Y : Type 0} (image : List ℕ) (ask : Ask E X) (next : X → Ask E Y) → visits image (ask >>= next) ≡ visits image ask ++ visits_next image (run image ask) next
+pub visits_bind : {E X Y : Type 0} (image : List ℕ) (ask : Ask E X) (next : X → Ask E Y) → visits image (ask >>= next) ≡ visits image ask ++ visits_next image (result_of image ask) next
 visits_bind image (Done x) next = refl
 visits_bind image (Stop e) next = refl
 visits_bind image (Look at len more) next = ap (λ ranges. record { at = at; len = len } ∷ ranges) (visits_bind image (more (part image at len)) next)
@@ -43,7 +43,7 @@ visits_bind_quiet image (Stop e) next quiet = refl
 visits_bind_quiet image (Look at len more) next quiet = ap (λ ranges. record { at = at; len = len } ∷ ranges) (visits_bind_quiet image (more (part image at len)) next quiet)
 
 -- where the first program gives a value, both look at what the first does, and then at what the second does for it
-pub visits_bind_ok : {E X Y : Type 0} (image : List ℕ) (ask : Ask E X) (next : X → Ask E Y) (x : X) → run image ask ≡ Ok x → visits image (ask >>= next) ≡ visits image ask ++ visits image (next x)
+pub visits_bind_ok : {E X Y : Type 0} (image : List ℕ) (ask : Ask E X) (next : X → Ask E Y) (x : X) → result_of image ask ≡ Ok x → visits image (ask >>= next) ≡ visits image ask ++ visits image (next x)
 visits_bind_ok image ask next x is = visits_bind image ask next ∙ ap (λ r. visits image ask ++ visits_next image r next) is
 
 -- a check gives its fault exactly where its test is false
@@ -57,11 +57,11 @@ visits_check image true fault = refl
 visits_check image false fault = refl
 
 -- a check that holds goes on, and one that doesn't stops with its fault
-pub run_check_true : {E Y : Type 0} (image : List ℕ) (test : Bool) (fault : E) (next : Unit {0} → Ask E Y) → test ≡ true → run image (check test fault >>= next) ≡ run image (next tt)
-run_check_true image test fault next is = ap (λ t. run image (check t fault >>= next)) is
+pub result_check_true : {E Y : Type 0} (image : List ℕ) (test : Bool) (fault : E) (next : Unit {0} → Ask E Y) → test ≡ true → result_of image (check test fault >>= next) ≡ result_of image (next tt)
+result_check_true image test fault next is = ap (λ t. result_of image (check t fault >>= next)) is
 
-pub run_check_false : {E Y : Type 0} (image : List ℕ) (test : Bool) (fault : E) (next : Unit {0} → Ask E Y) → test ≡ false → run image (check test fault >>= next) ≡ Err fault
-run_check_false image test fault next is = ap (λ t. run image (check t fault >>= next)) is
+pub result_check_false : {E Y : Type 0} (image : List ℕ) (test : Bool) (fault : E) (next : Unit {0} → Ask E Y) → test ≡ false → result_of image (check test fault >>= next) ≡ Err fault
+result_check_false image test fault next is = ap (λ t. result_of image (check t fault >>= next)) is
 
 -- a check in front of a program that looks at nothing
 pub visits_check_quiet : {E Y : Type 0} (image : List ℕ) (test : Bool) (fault : E) (next : Unit {0} → Ask E Y) → visits image (next tt) ≡ [] → visits image (check test fault >>= next) ≡ []
@@ -73,9 +73,9 @@ pub visits_check_true : {E Y : Type 0} (image : List ℕ) (test : Bool) (fault :
 visits_check_true image test fault next is = ap (λ t. visits image (check t fault >>= next)) is
 
 -- a given value is the result
-pub run_given : {E X : Type 0} (image : List ℕ) (result : Result X E) → run image (given result) ≡ result
-run_given image (Ok x) = refl
-run_given image (Err e) = refl
+pub result_given : {E X : Type 0} (image : List ℕ) (result : Result X E) → result_of image (given result) ≡ result
+result_given image (Ok x) = refl
+result_given image (Err e) = refl
 
 -- a given value looks at nothing
 pub visits_given : {E X : Type 0} (image : List ℕ) (result : Result X E) → visits image (given result) ≡ []
@@ -83,10 +83,10 @@ visits_given image (Ok x) = refl
 visits_given image (Err e) = refl
 
 -- a program whose value a function changes gives the changed value
-pub run_bind_done : {E X Y : Type 0} (image : List ℕ) (ask : Ask E X) (change : X → Y) → run image (ask >>= (λ x. Done (change x))) ≡ with_value change (run image ask)
-run_bind_done image (Done x) change = refl
-run_bind_done image (Stop e) change = refl
-run_bind_done image (Look at len more) change = run_bind_done image (more (part image at len)) change
+pub result_bind_done : {E X Y : Type 0} (image : List ℕ) (ask : Ask E X) (change : X → Y) → result_of image (ask >>= (λ x. Done (change x))) ≡ with_value change (result_of image ask)
+result_bind_done image (Done x) change = refl
+result_bind_done image (Stop e) change = refl
+result_bind_done image (Look at len more) change = result_bind_done image (more (part image at len)) change
 
 -- and it looks at the same ranges
 pub visits_bind_done : {E X Y : Type 0} (image : List ℕ) (ask : Ask E X) (change : X → Y) → visits image (ask >>= (λ x. Done (change x))) ≡ visits image ask
@@ -94,24 +94,24 @@ visits_bind_done image (Done x) change = refl
 visits_bind_done image (Stop e) change = refl
 visits_bind_done image (Look at len more) change = ap (λ ranges. record { at = at; len = len } ∷ ranges) (visits_bind_done image (more (part image at len)) change)
 
-run_next_each : {E X Y : Type 0} (image : List ℕ) (ask : X → Ask E Y) (xs : List X) (first : Result Y E) → run_next image first (λ y. each ask xs >>= (λ ys. Done (y ∷ ys))) ≡ in_front_of first (run image (each ask xs))
-run_next_each image ask xs (Ok y) = run_bind_done image (each ask xs) (λ ys. y ∷ ys)
-run_next_each image ask xs (Err e) = refl
+result_next_each : {E X Y : Type 0} (image : List ℕ) (ask : X → Ask E Y) (xs : List X) (first : Result Y E) → result_next image first (λ y. each ask xs >>= (λ ys. Done (y ∷ ys))) ≡ in_front_of first (result_of image (each ask xs))
+result_next_each image ask xs (Ok y) = result_bind_done image (each ask xs) (λ ys. y ∷ ys)
+result_next_each image ask xs (Err e) = refl
 
 -- the programs for each item give their values in order, or the first fault
-pub run_each : {E X Y : Type 0} (image : List ℕ) (ask : X → Ask E Y) (xs : List X) → run image (each ask xs) ≡ each_result (λ x. run image (ask x)) xs
-run_each image ask [] = refl
-run_each image ask (x ∷ xs) =
-    run_bind image (ask x) (λ y. each ask xs >>= (λ ys. Done (y ∷ ys)))
-    ∙ run_next_each image ask xs (run image (ask x))
-    ∙ ap (λ rest. in_front_of (run image (ask x)) rest) (run_each image ask xs)
+pub result_each : {E X Y : Type 0} (image : List ℕ) (ask : X → Ask E Y) (xs : List X) → result_of image (each ask xs) ≡ each_result (λ x. result_of image (ask x)) xs
+result_each image ask [] = refl
+result_each image ask (x ∷ xs) =
+    result_bind image (ask x) (λ y. each ask xs >>= (λ ys. Done (y ∷ ys)))
+    ∙ result_next_each image ask xs (result_of image (ask x))
+    ∙ ap (λ rest. in_front_of (result_of image (ask x)) rest) (result_each image ask xs)
 
 visits_next_each : {E X Y : Type 0} (image : List ℕ) (ask : X → Ask E Y) (xs : List X) (first : Result Y E) → visits_next image first (λ y. each ask xs >>= (λ ys. Done (y ∷ ys))) ≡ visits_next image first (λ y. each ask xs)
 visits_next_each image ask xs (Ok y) = visits_bind_done image (each ask xs) (λ ys. y ∷ ys)
 visits_next_each image ask xs (Err e) = refl
 
 -- the programs for each item look at what the first looks at, and then, where it gives a value, at what the others do
-pub visits_each : {E X Y : Type 0} (image : List ℕ) (ask : X → Ask E Y) (x : X) (xs : List X) → visits image (each ask (x ∷ xs)) ≡ visits image (ask x) ++ visits_next image (run image (ask x)) (λ y. each ask xs)
+pub visits_each : {E X Y : Type 0} (image : List ℕ) (ask : X → Ask E Y) (x : X) (xs : List X) → visits image (each ask (x ∷ xs)) ≡ visits image (ask x) ++ visits_next image (result_of image (ask x)) (λ y. each ask xs)
 visits_each image ask x xs =
     visits_bind image (ask x) (λ y. each ask xs >>= (λ ys. Done (y ∷ ys)))
-    ∙ ap (λ rest. visits image (ask x) ++ rest) (visits_next_each image ask xs (run image (ask x)))
+    ∙ ap (λ rest. visits image (ask x) ++ rest) (visits_next_each image ask xs (result_of image (ask x)))

@@ -8,9 +8,9 @@ use Rattle.std.proofs.Math.ListN.{drop_of_length-le}
 use Rattle.std.proofs.lemmas.Bool.{false≢true}
 use Rattle.range_defs.specs.declared.Range.{Range}
 use Rattle.bytes_defs.specs.Bytes.{part}
-use Rattle.image_defs.specs.Ask.{Ask, Done, Stop, Look, run, visits, ◌>>=◌, check, each}
+use Rattle.image_defs.specs.Ask.{Ask, Done, Stop, Look, result_of, visits, ◌>>=◌, check, each}
 use Rattle.image_defs.specs.Runs.{with_value}
-use Rattle.image_defs.proofs.Runs.{run_next, run_bind, visits_next, visits_bind, run_bind_done, visits_bind_done}
+use Rattle.image_defs.proofs.Runs.{result_next, result_bind, visits_next, visits_bind, result_bind_done, visits_bind_done}
 use Rattle.image_defs.specs.Standing.{IsCome, StandsIn, StepAnswers, StepsLaw, each_behind}
 
 -- ---- a reader goes through a program
@@ -22,13 +22,13 @@ begins (Some image) whole before = record { gives = refl; looks = refl }
 stands_behind : {E X Y : Type 0} (image : List ℕ) (whole : Ask E Y) (before : List Range) (step : Ask E X) (next : X → Ask E Y) (now : List Range) (left : Ask E X) (looked : List Range)
     → StandsIn image whole before (step >>= next) now → StandsIn image step now left looked → StandsIn image whole before (left >>= next) looked
 stands_behind image whole before step next now left looked stands did = record {
-  gives = stands.gives ∙ run_bind image step next ∙ ap (λ r. run_next image r next) did.gives ∙ sym (run_bind image left next);
+  gives = stands.gives ∙ result_bind image step next ∙ ap (λ r. result_next image r next) did.gives ∙ sym (result_bind image left next);
   looks =
       stands.looks
       ∙ ap (λ ranges. now ++ ranges) (visits_bind image step next)
-      ∙ sym (append_assoc now (visits image step) (visits_next image (run image step) next))
-      ∙ ap (λ ranges. ranges ++ visits_next image (run image step) next) did.looks
-      ∙ append_assoc looked (visits image left) (visits_next image (run image step) next)
+      ∙ sym (append_assoc now (visits image step) (visits_next image (result_of image step) next))
+      ∙ ap (λ ranges. ranges ++ visits_next image (result_of image step) next) did.looks
+      ∙ append_assoc looked (visits image left) (visits_next image (result_of image step) next)
       ∙ ap (λ r. looked ++ (visits image left ++ visits_next image r next)) did.gives
       ∙ ap (λ ranges. looked ++ ranges) (sym (visits_bind image left next));
 }
@@ -102,15 +102,15 @@ each_begins None ask items before values none = tt
 each_begins {Y = Y} (Some image) ask items before values none =
     let P : List Y → Type 0 = λ list. StandsIn image (each ask items) before (each_behind ask list items) before in
     subst P (sym none) (record {
-      gives = sym (run_bind_done image (each ask items) (λ more. [] ++ more) ∙ with_none (run image (each ask items)));
+      gives = sym (result_bind_done image (each ask items) (λ more. [] ++ more) ∙ with_none (result_of image (each ask items)));
       looks = ap (λ ranges. before ++ ranges) (sym (visits_bind_done image (each ask items) (λ more. [] ++ more)));
     })
 
 -- two programs behind one another
-run_behind : {E X Y Z : Type 0} (image : List ℕ) (ask : Ask E X) (next : X → Ask E Y) (last : Y → Ask E Z) → run image ((ask >>= next) >>= last) ≡ run image (ask >>= (λ x. next x >>= last))
-run_behind image (Done x) next last = refl
-run_behind image (Stop e) next last = refl
-run_behind image (Look at len more) next last = run_behind image (more (part image at len)) next last
+result_behind : {E X Y Z : Type 0} (image : List ℕ) (ask : Ask E X) (next : X → Ask E Y) (last : Y → Ask E Z) → result_of image ((ask >>= next) >>= last) ≡ result_of image (ask >>= (λ x. next x >>= last))
+result_behind image (Done x) next last = refl
+result_behind image (Stop e) next last = refl
+result_behind image (Look at len more) next last = result_behind image (more (part image at len)) next last
 
 visits_behind : {E X Y Z : Type 0} (image : List ℕ) (ask : Ask E X) (next : X → Ask E Y) (last : Y → Ask E Z) → visits image ((ask >>= next) >>= last) ≡ visits image (ask >>= (λ x. next x >>= last))
 visits_behind image (Done x) next last = refl
@@ -119,7 +119,7 @@ visits_behind image (Look at len more) next last = ap (λ ranges. record { at = 
 
 -- the sum of what is left after one more value
 rest_of_values : {E Y : Type 0} (image : List ℕ) (values : List Y) (y : Y) (rest : Ask E (List Y))
-    → (run image ((rest >>= (λ ys. Done (y ∷ ys))) >>= (λ more. Done (values ++ more))) ≡ run image (rest >>= (λ more. Done ((values ++ y ∷ []) ++ more))))
+    → (result_of image ((rest >>= (λ ys. Done (y ∷ ys))) >>= (λ more. Done (values ++ more))) ≡ result_of image (rest >>= (λ more. Done ((values ++ y ∷ []) ++ more))))
     × (visits image ((rest >>= (λ ys. Done (y ∷ ys))) >>= (λ more. Done (values ++ more))) ≡ visits image (rest >>= (λ more. Done ((values ++ y ∷ []) ++ more))))
 rest_of_values image values y (Done ys) = (ap Ok (sym (append_assoc values (y ∷ []) ys)), refl)
 rest_of_values image values y (Stop e) = (refl, refl)
@@ -132,7 +132,7 @@ each_splits : {E X Y : Type 0} (told : Option (List ℕ)) (whole : Ask E (List Y
     → IsCome told whole before (each_behind ask values (x ∷ left)) now → IsCome told whole before (ask x >>= (λ y. (each ask left >>= (λ ys. Done (y ∷ ys))) >>= (λ more. Done (values ++ more)))) now
 each_splits None whole before ask values x left now come = tt
 each_splits (Some image) whole before ask values x left now come = record {
-  gives = come.gives ∙ run_behind image (ask x) (λ y. each ask left >>= (λ ys. Done (y ∷ ys))) (λ more. Done (values ++ more));
+  gives = come.gives ∙ result_behind image (ask x) (λ y. each ask left >>= (λ ys. Done (y ∷ ys))) (λ more. Done (values ++ more));
   looks = come.looks ∙ ap (λ ranges. now ++ ranges) (visits_behind image (ask x) (λ y. each ask left >>= (λ ys. Done (y ∷ ys))) (λ more. Done (values ++ more)));
 }
 

@@ -8,10 +8,10 @@ use Rattle.std.proofs.lemmas.List.Elements.{All-head, All-tail, All-cons, All-ni
 use Rattle.range_defs.specs.declared.Range.{Range}
 use Rattle.range_defs.specs.Places.{in_range, covers}
 use Rattle.bytes_defs.specs.Bytes.{part}
-use Rattle.image_defs.specs.Ask.{Ask, Done, Stop, Look, run, visits, ◌>>=◌}
+use Rattle.image_defs.specs.Ask.{Ask, Done, Stop, Look, result_of, visits, ◌>>=◌}
 use Rattle.image_defs.specs.Agreement.{AgreeOn}
 use Rattle.image_defs.proofs.Agreement.{covers_first, covers_behind, footprint_law}
-use Rattle.image_defs.proofs.Runs.{run_bind_ok}
+use Rattle.image_defs.proofs.Runs.{result_bind_ok}
 use Rattle.image_defs.specs.Looks.{LooksAt}
 use Rattle.image_defs.proofs.Looks.{looks_nowhere, looks_done, looks_weaker, looks_bind, looks_bind_ok, looks_look}
 use Rattle.image_defs.specs.Via.{byte_of, seen_from, seen, look_byte, look_bytes, via, with_faults}
@@ -24,16 +24,16 @@ unfolding part
 byte_of_part image place =
     get_or-take 1 (drop place image) 0 0 (omega arith) ∙ get_or-drop place image 0 0 ∙ ap (λ at. get_or image at 0) (omega arith)
 
-run_look_byte : {E : Type 0} (image : List ℕ) (place : Option ℕ) → run image (look_byte {E = E} place) ≡ Ok (byte_of image place)
+run_look_byte : {E : Type 0} (image : List ℕ) (place : Option ℕ) → result_of image (look_byte {E = E} place) ≡ Ok (byte_of image place)
 run_look_byte image None = refl
 run_look_byte image (Some place) = ap Ok (byte_of_part image place)
 
-pub run_look_bytes : {E : Type 0} (image : List ℕ) (place : ℕ → Option ℕ) (at count : ℕ) → run image (look_bytes {E = E} place at count) ≡ Ok (seen_from image place at count)
+pub result_look_bytes : {E : Type 0} (image : List ℕ) (place : ℕ → Option ℕ) (at count : ℕ) → result_of image (look_bytes {E = E} place at count) ≡ Ok (seen_from image place at count)
 unfolding look_bytes seen_from
-run_look_bytes image place at zero = refl
-run_look_bytes {E = E} image place at (suc count) =
-    run_bind_ok image (look_byte {E = E} (place at)) (λ byte. look_bytes place (suc at) count >>= (λ bytes. Done (byte ∷ bytes))) (byte_of image (place at)) (run_look_byte image (place at))
-    ∙ run_bind_ok image (look_bytes {E = E} place (suc at) count) (λ bytes. Done (byte_of image (place at) ∷ bytes)) (seen_from image place (suc at) count) (run_look_bytes image place (suc at) count)
+result_look_bytes image place at zero = refl
+result_look_bytes {E = E} image place at (suc count) =
+    result_bind_ok image (look_byte {E = E} (place at)) (λ byte. look_bytes place (suc at) count >>= (λ bytes. Done (byte ∷ bytes))) (byte_of image (place at)) (run_look_byte image (place at))
+    ∙ result_bind_ok image (look_bytes {E = E} place (suc at) count) (λ bytes. Done (byte_of image (place at) ∷ bytes)) (seen_from image place (suc at) count) (result_look_bytes image place (suc at) count)
 
 drop_seen : (image : List ℕ) (place : ℕ → Option ℕ) (from size at : ℕ) → drop at (seen_from image place from size) ≡ seen_from image place (from + at) (size - at)
 unfolding seen_from
@@ -86,15 +86,15 @@ seen_at image place from (suc size) (suc i) inside =
 
 -- ---- what the program gives
 
-pub run_via : {E X : Type 0} (image : List ℕ) (place : ℕ → Option ℕ) (size : ℕ) (ask : Ask E X) → run image (via place size ask) ≡ run (seen image place size) ask
+pub result_via : {E X : Type 0} (image : List ℕ) (place : ℕ → Option ℕ) (size : ℕ) (ask : Ask E X) → result_of image (via place size ask) ≡ result_of (seen image place size) ask
 unfolding via
-run_via image place size (Done x) = refl
-run_via image place size (Stop e) = refl
-run_via {E = E} image place size (Look at len next) =
+result_via image place size (Done x) = refl
+result_via image place size (Stop e) = refl
+result_via {E = E} image place size (Look at len next) =
     let bytes = seen_from image place at (min len (size - at)) in
-    run_bind_ok image (look_bytes {E = E} place at (min len (size - at))) (λ bytes. via place size (next bytes)) bytes (run_look_bytes image place at (min len (size - at)))
-    ∙ run_via image place size (next bytes)
-    ∙ ap (λ bytes. run (seen image place size) (next bytes)) (sym (part_seen image place size at len))
+    result_bind_ok image (look_bytes {E = E} place at (min len (size - at))) (λ bytes. via place size (next bytes)) bytes (result_look_bytes image place at (min len (size - at)))
+    ∙ result_via image place size (next bytes)
+    ∙ ap (λ bytes. result_of (seen image place size) (next bytes)) (sym (part_seen image place size at len))
 
 -- ---- what it looks at
 
@@ -130,7 +130,7 @@ looks_via {E = E} P image place size (Look at len next) looks =
     let later : LooksAt Here (seen image place size) behind = record { all = All-tail Here (record { at = at; len = len }) (visits (seen image place size) behind) looks.all } in
     let same : part (seen image place size) at len ≡ bytes = part_seen image place size at len in
     let Q : List ℕ → Type 0 = λ bytes. LooksAt Here (seen image place size) (next bytes) in
-    looks_bind_ok P image (look_bytes {E = E} place at (min len (size - at))) (λ bytes. via place size (next bytes)) bytes (run_look_bytes image place at (min len (size - at)))
+    looks_bind_ok P image (look_bytes {E = E} place at (min len (size - at))) (λ bytes. via place size (next bytes)) bytes (result_look_bytes image place at (min len (size - at)))
     (looks_bytes E P image place at (min len (size - at)) (λ i p from to is. first i p from (omega (arith, to)) (omega (arith, to)) is))
     (looks_via P image place size (next bytes) (subst Q same later))
 
@@ -140,10 +140,10 @@ abbrev pub with_fault : {E F X : Type 0} → (E → F) → Result X E → Result
 with_fault fault (Ok x) = Ok x
 with_fault fault (Err e) = Err (fault e)
 
-pub run_with_faults : {E F X : Type 0} (image : List ℕ) (fault : E → F) (ask : Ask E X) → run image (with_faults fault ask) ≡ with_fault fault (run image ask)
-run_with_faults image fault (Done x) = refl
-run_with_faults image fault (Stop e) = refl
-run_with_faults image fault (Look at len next) = run_with_faults image fault (next (part image at len))
+pub result_with_faults : {E F X : Type 0} (image : List ℕ) (fault : E → F) (ask : Ask E X) → result_of image (with_faults fault ask) ≡ with_fault fault (result_of image ask)
+result_with_faults image fault (Done x) = refl
+result_with_faults image fault (Stop e) = refl
+result_with_faults image fault (Look at len next) = result_with_faults image fault (next (part image at len))
 
 pub looks_with_faults : {E F X : Type 0} (P : Range → Type 0) (image : List ℕ) (fault : E → F) (ask : Ask E X) → LooksAt P image ask → LooksAt P image (with_faults fault ask)
 looks_with_faults P image fault (Done x) looks = looks_done P image x
@@ -181,7 +181,7 @@ pub set_law : (E X : Type 0) → SetLaw E X
 set_law E X test ask a b same_length same looks = footprint_law E X ask a b (agree_on_looks (λ byte. IsTrue (test byte)) ask a b same_length same looks)
 
 pub via_law : (E X : Type 0) → ViaLaw E X
-via_law E X image place size ask = run_via image place size ask
+via_law E X image place size ask = result_via image place size ask
 
 -- each range lies in what all of them cover
 lies_in_covered : (ranges : List Range) → All (LiesIn (λ byte. IsTrue (covers ranges byte))) ranges

@@ -10,10 +10,10 @@ pub data Ask (E X : Type 0) : Type 0 where
   Look : ℕ → ℕ → (List ℕ → Ask E X) → Ask E X
 
 -- what the program gives on an image
-abbrev pub run : {E X : Type 0} → List ℕ → Ask E X → Result X E
-run image (Done x) = Ok x
-run image (Stop e) = Err e
-run image (Look at len next) = run image (next (part image at len))
+abbrev pub result_of : {E X : Type 0} → List ℕ → Ask E X → Result X E
+result_of image (Done x) = Ok x
+result_of image (Stop e) = Err e
+result_of image (Look at len next) = result_of image (next (part image at len))
 
 -- the ranges that it looks at on an image, in order
 abbrev pub visits : {E X : Type 0} → List ℕ → Ask E X → List Range

@@ -2,7 +2,7 @@
 use Rattle.std.specs.Prelude.{◌≡◌, ℕ, ◌+◌, ◌<◌, ◌≤◌, Bool, IsTrue, Option, Some, List, length, slice_get}
 use Rattle.range_defs.specs.declared.Range.{Range}
 use Rattle.range_defs.specs.Places.{covers}
-use Rattle.image_defs.specs.Ask.{Ask, run, visits}
+use Rattle.image_defs.specs.Ask.{Ask, result_of, visits}
 use Rattle.image_defs.specs.Looks.{LooksAt}
 use Rattle.image_defs.specs.Via.{seen, via}
 
@@ -15,11 +15,11 @@ LiesIn Q range = (byte : ℕ) → range.at ≤ byte → byte < range.at + range.
 abbrev pub SetLaw : Type 0 → Type 0 → Type 0
 SetLaw E X =
     (test : ℕ → Bool) (ask : Ask E X) (a b : List ℕ) → length a ≡ length b → ((byte : ℕ) → IsTrue (test byte) → slice_get a byte ≡ slice_get b byte)
-    → LooksAt (LiesIn (λ byte. IsTrue (test byte))) a ask → (run b ask ≡ run a ask) × (visits b ask ≡ visits a ask)
+    → LooksAt (LiesIn (λ byte. IsTrue (test byte))) a ask → (result_of b ask ≡ result_of a ask) × (visits b ask ≡ visits a ask)
 
 -- it gives what the program gives on the bytes
 abbrev pub ViaLaw : Type 0 → Type 0 → Type 0
-ViaLaw E X = (image : List ℕ) (place : ℕ → Option ℕ) (size : ℕ) (ask : Ask E X) → run image (via place size ask) ≡ run (seen image place size) ask
+ViaLaw E X = (image : List ℕ) (place : ℕ → Option ℕ) (size : ℕ) (ask : Ask E X) → result_of image (via place size ask) ≡ result_of (seen image place size) ask
 
 -- a byte of an image is the place of one of the bytes that a program looks at
 abbrev pub IsPlaceOfLooked : {E X : Type 0} → List ℕ → (ℕ → Option ℕ) → ℕ → Ask E X → ℕ → Type 0

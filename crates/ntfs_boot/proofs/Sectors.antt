@@ -14,8 +14,8 @@ use Rattle.bytes_defs.specs.Bytes.{part}
 use Rattle.bytes_defs.specs.declared.order.Order.TheVariants.{Little}
 use Rattle.bytes_defs.specs.Numbers.{number_at, little_signed_at}
 use Rattle.bytes_defs.proofs.NumberLaws.{signed_at_number}
-use Rattle.image_defs.specs.Ask.{Ask, run, check, ◌>>◌}
-use Rattle.image_defs.proofs.Runs.{run_check_true, run_check_false}
+use Rattle.image_defs.specs.Ask.{Ask, result_of, check, ◌>>◌}
+use Rattle.image_defs.proofs.Runs.{result_check_true, result_check_false}
 use Rattle.fault_defs.specs.declared.Sort.TheVariants.{BootField}
 use Rattle.fault_defs.specs.declared.What.TheVariants.{BootGeometry}
 use Rattle.fault_defs.specs.declared.Refusal.{Refusal}
@@ -105,19 +105,19 @@ size_fails at len bytes are size =
 
 -- ---- the program
 
-tested : {X : Type 0} (image : List ℕ) (test : Bool) (fault : Refusal) (next : Ask Refusal X) → run image (check test fault >> next) ≡ (if test then run image next else Err fault)
+tested : {X : Type 0} (image : List ℕ) (test : Bool) (fault : Refusal) (next : Ask Refusal X) → result_of image (check test fault >> next) ≡ (if test then result_of image next else Err fault)
 tested image true fault next = refl
 tested image false fault next = refl
 
-pub short_volume : (image : List ℕ) (at len : ℕ) → len < 512 → run image (boot_at at len) ≡ Err NotThis
+pub short_volume : (image : List ℕ) (at len : ℕ) → len < 512 → result_of image (boot_at at len) ≡ Err NotThis
 unfolding boot_at
-short_volume image at len short = run_check_false image (nat_le 512 len) NotThis _ (lt-leb 512 len short)
+short_volume image at len short = result_check_false image (nat_le 512 len) NotThis _ (lt-leb 512 len short)
 
-pub boot_run : (image : List ℕ) (at len : ℕ) → 512 ≤ len → run image (boot_at at len) ≡ sector_boot at len (part image at 512)
+pub boot_run : (image : List ℕ) (at len : ℕ) → 512 ≤ len → result_of image (boot_at at len) ≡ sector_boot at len (part image at 512)
 unfolding boot_at sector_boot
 boot_run image at len long =
     let bytes = part image at 512 in
-    run_check_true image (nat_le 512 len) NotThis _ (le-leb 512 len long)
+    result_check_true image (nat_le 512 len) NotThis _ (le-leb 512 len long)
     ∙ tested image (is_boot_sector bytes) NotThis _
     ∙ ap (λ (rest : Result Boot Refusal). if is_boot_sector bytes then rest else Err NotThis)
     (tested image (is_one_of sector_sizes (sector_size bytes)) (Unsupported BootGeometry (at + 0x0B)) _

@@ -10,7 +10,7 @@ ghost use Rattle.disk_defs.specs.Count.{IsCountedIn};
 ghost use Rattle.disk_defs.specs.Disk.{size_of, told_image};
 ghost use Rattle.disk_defs.specs.declared.Area.TheVariants.{Image};
 ghost use Rattle.bytes_defs.specs.Bytes.{part};
-ghost use Rattle.image_defs.specs.Ask.{run};
+ghost use Rattle.image_defs.specs.Ask.{result_of};
 ghost use Rattle.rx_store.specs.Answers.{Answers};
 ghost use Rattle.rx_store.specs.ReadFaults.{IsReadCounted};
 ghost use Rattle.ntfs_volume_defs.specs.Boot.{boot_at};
@@ -38,7 +38,7 @@ fn read_sector<S: Store>(store: &mut S, at: u64) -> Result<[u8; 512], Fault>
 /// The geometry of the volume whose `len` bytes stand from byte `at` of the image on.
 pub fn read_boot<S: Store>(store: &mut S, at: u64, len: u64) -> Result<Boot, ReadFault>
     requires { at + len ≤ size_of Image (S.state store.old) }
-    ensures told { IfSome (told_image (S.state store.old)) (λ image. Answers result (run image (boot_at at len))) }
+    ensures told { IfSome (told_image (S.state store.old)) (λ image. Answers result (result_of image (boot_at at len))) }
     ensures sound { IfOk result (λ boot. IsSoundBoot at len boot) }
     ensures refusals { IfErr result (λ fault. IsBootRefusal fault) }
     ensures same { S.state store.new ≡ S.state store.old }

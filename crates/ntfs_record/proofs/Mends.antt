@@ -6,10 +6,10 @@ use Rattle.std.proofs.lemmas.List.{ext_get_or, get_or-take, get_or-drop}
 use Rattle.std.proofs.lemmas.Slice.Eq.{bytes_eq-Decides}
 use Rattle.std.specs.Str.{bytes_eq}
 use Rattle.bytes_defs.specs.Bytes.{part}
-use Rattle.image_defs.specs.Ask.{Ask, run, each, check, ◌>>◌}
+use Rattle.image_defs.specs.Ask.{Ask, result_of, each, check, ◌>>◌}
 use Rattle.image_defs.specs.Runs.{with_value}
-use Rattle.image_defs.proofs.Runs.{run_next, run_bind, run_bind_done}
-use Rattle.image_defs.proofs.ViaLaws.{run_via, seen_at, length_seen}
+use Rattle.image_defs.proofs.Runs.{result_next, result_bind, result_bind_done}
+use Rattle.image_defs.proofs.ViaLaws.{result_via, seen_at, length_seen}
 use Rattle.ntfs_record_defs.specs.declared.fault.RecordFault.{RecordFault}
 use Rattle.ntfs_record_defs.specs.declared.fault.RecordFault.TheVariants.{NotFile, BadFixup, BadField}
 use Rattle.ntfs_record_defs.specs.Stored.{stored_place, stored_at, entries, array_end, is_array, count_from, ends_with}
@@ -37,14 +37,14 @@ file_front bytes = ap (λ front. bytes_eq front (70 ∷ 73 ∷ 76 ∷ 69 ∷ [])
 -- ---- the checks of a record
 
 module _ {X : Type 0} (bytes : List ℕ) where
-  behind_test : (test : Bool) (fault : RecordFault) (next : Ask RecordFault X) → status (run bytes (check test fault >> next)) ≡ (if test then status (run bytes next) else Err fault)
+  behind_test : (test : Bool) (fault : RecordFault) (next : Ask RecordFault X) → status (result_of bytes (check test fault >> next)) ≡ (if test then status (result_of bytes next) else Err fault)
   behind_test true fault next = refl
   behind_test false fault next = refl
 
-  behind_all : (Y : Type 0) (first : Ask RecordFault Y) (next : Ask RecordFault X) → status (run bytes (first >> next)) ≡ and_check (status (run bytes first)) (status (run bytes next))
-  behind_all Y first next = ap status (run_bind bytes first (λ x. next)) ∙ by_result (run bytes first)
+  behind_all : (Y : Type 0) (first : Ask RecordFault Y) (next : Ask RecordFault X) → status (result_of bytes (first >> next)) ≡ and_check (status (result_of bytes first)) (status (result_of bytes next))
+  behind_all Y first next = ap status (result_bind bytes first (λ x. next)) ∙ by_result (result_of bytes first)
     where
-      by_result : (result : Result Y RecordFault) → status (run_next bytes result (λ x. next)) ≡ and_check (status result) (status (run bytes next))
+      by_result : (result : Result Y RecordFault) → status (result_next bytes result (λ x. next)) ≡ and_check (status result) (status (result_of bytes next))
       by_result (Ok x) = refl
       by_result (Err fault) = refl
 
@@ -67,13 +67,13 @@ status_change : {X Y : Type 0} (change : X → Y) (result : Result X RecordFault
 status_change change (Ok x) = refl
 status_change change (Err fault) = refl
 
-attributes_checked : (bytes : List ℕ) → 42 ≤ length bytes → status (run bytes (stored_attributes (length bytes) (header_of bytes))) ≡ attributes_check (mended bytes)
+attributes_checked : (bytes : List ℕ) → 42 ≤ length bytes → status (result_of bytes (stored_attributes (length bytes) (header_of bytes))) ≡ attributes_check (mended bytes)
 attributes_checked bytes long =
-    ap status (run_via bytes (stored_at (header_of bytes).array) (length bytes) (attributes_from (header_of bytes).used (header_of bytes).first))
-    ∙ ap (λ (header : Header). status (run (mended bytes) (attributes_from header.used header.first))) (sym (header_mended bytes long))
+    ap status (result_via bytes (stored_at (header_of bytes).array) (length bytes) (attributes_from (header_of bytes).used (header_of bytes).first))
+    ∙ ap (λ (header : Header). status (result_of (mended bytes) (attributes_from header.used header.first))) (sym (header_mended bytes long))
 
 behind_checked : (bytes : List ℕ) → 42 ≤ length bytes
-    → status (run bytes (record_behind (length bytes) (header_of bytes)))
+    → status (result_of bytes (record_behind (length bytes) (header_of bytes)))
     ≡ (if (header_of bytes).count == entries (length bytes)
     then (if is_array (length bytes) (header_of bytes).array
     then and_check (ends_check bytes)
@@ -89,15 +89,15 @@ behind_checked bytes long =
     let all : size / 512 - 0 ≡ size / 512 = omega arith in
     let ends = each (ends_with (part bytes header.array 2)) (count_from 0 (size / 512)) in
     let found =
-    ap status (run_bind_done bytes (stored_attributes size header) (λ attributes. record { header = header; attributes = attributes }))
-    ∙ status_change (λ attributes. record { header = header; attributes = attributes }) (run bytes (stored_attributes size header))
+    ap status (result_bind_done bytes (stored_attributes size header) (λ attributes. record { header = header; attributes = attributes }))
+    ∙ status_change (λ attributes. record { header = header; attributes = attributes }) (result_of bytes (stored_attributes size header))
     ∙ attributes_checked bytes long in
     behind_test bytes (header.count == entries size) (BadField 6) _
     ∙ ap (λ (rest : Result (Unit {0}) RecordFault). if header.count == entries size then rest else Err (BadField 6))
     (behind_test bytes (is_array size header.array) (BadField 4) _
     ∙ ap (λ (rest : Result (Unit {0}) RecordFault). if is_array size header.array then rest else Err (BadField 4))
     (behind_all bytes (List (Unit {0})) ends (record_within size header)
-    ∙ ap (λ n. and_check (status (run bytes (each (ends_with (part bytes header.array 2)) (count_from 0 n)))) (status (run bytes (record_within size header)))) (sym all)
+    ∙ ap (λ n. and_check (status (result_of bytes (each (ends_with (part bytes header.array 2)) (count_from 0 n)))) (status (result_of bytes (record_within size header)))) (sym all)
     ∙ ap (and_check (ends_check bytes))
     (behind_test bytes (nat_le (array_end size header.array) header.first) (BadField 20) _
     ∙ ap (λ (rest : Result (Unit {0}) RecordFault). if nat_le (array_end size header.array) header.first then rest else Err (BadField 20))
@@ -108,8 +108,8 @@ pub record_checks : (bytes : List ℕ) → 42 ≤ length bytes → record_check 
 unfolding record_of
 record_checks bytes long =
     behind_test bytes (is_file (part bytes 0 42)) NotFile (record_behind (length bytes) (header_of (part bytes 0 42)))
-    ∙ ap (λ header. if is_file (part bytes 0 42) then status (run bytes (record_behind (length bytes) header)) else Err NotFile) (header_front bytes)
-    ∙ ap (λ (test : Bool). if test then status (run bytes (record_behind (length bytes) (header_of bytes))) else Err NotFile) (file_front bytes)
+    ∙ ap (λ header. if is_file (part bytes 0 42) then status (result_of bytes (record_behind (length bytes) header)) else Err NotFile) (header_front bytes)
+    ∙ ap (λ (test : Bool). if test then status (result_of bytes (record_behind (length bytes) (header_of bytes))) else Err NotFile) (file_front bytes)
     ∙ ap (λ (rest : Result (Unit {0}) RecordFault). if is_file bytes then rest else Err NotFile) (behind_checked bytes long)
     ∙ nested (is_file bytes) ((header_of bytes).count == entries (length bytes)) (is_array (length bytes) (header_of bytes).array)
     (nat_le (array_end (length bytes) (header_of bytes).array) (header_of bytes).first) (is_used_size (length bytes) (header_of bytes)) (ends_check bytes) (attributes_check (mended bytes))
@@ -259,7 +259,7 @@ mended_is bytes size stored attributes =
       size = subst IsRecordSize long size;
       array = ap (λ (header : Header). is_array (length (mended bytes)) header.array) header ∙ ap (λ n. is_array n (header_of bytes).array) (sym long) ∙ stored.array;
       used = ap (is_used_size (length (mended bytes))) header ∙ ap (λ n. is_used_size n (header_of bytes)) (sym long) ∙ stored.used;
-      sound = status_ok (run (mended bytes) (attributes_from (header_of (mended bytes)).used (header_of (mended bytes)).first)) attributes;
+      sound = status_ok (result_of (mended bytes) (attributes_from (header_of (mended bytes)).used (header_of (mended bytes)).first)) attributes;
     }
 
 -- ---- what all checks say together
@@ -314,11 +314,11 @@ status_refuses : {X : Type 0} (result : Result X RecordFault) (fault : RecordFau
 status_refuses (Ok x) fault is = absurd cc
 status_refuses (Err other) fault is = let same : other ≡ fault = cc in ap Err same
 
-pub run_refuses : (bytes : List ℕ) (fault : RecordFault) → record_check bytes ≡ Err fault → run bytes (record_of (length bytes)) ≡ Err fault
-run_refuses bytes fault is = status_refuses (run bytes (record_of (length bytes))) fault is
+pub result_refuses : (bytes : List ℕ) (fault : RecordFault) → record_check bytes ≡ Err fault → result_of bytes (record_of (length bytes)) ≡ Err fault
+result_refuses bytes fault is = status_refuses (result_of bytes (record_of (length bytes))) fault is
 
-pub run_gives : (bytes : List ℕ) → record_check bytes ≡ passed → IsOk (run bytes (record_of (length bytes)))
-run_gives bytes is = status_ok (run bytes (record_of (length bytes))) is
+pub result_gives : (bytes : List ℕ) → record_check bytes ≡ passed → IsOk (result_of bytes (record_of (length bytes)))
+result_gives bytes is = status_ok (result_of bytes (record_of (length bytes))) is
 
 pub found_is_mended : (bytes now : List ℕ) → IsRecordSize (length bytes) → record_check bytes ≡ passed → now ≡ mended bytes → IsMended now
 found_is_mended bytes now size is now_is =

@@ -3,9 +3,9 @@ use Rattle.std.proofs.Common.{◌≡◌, ℕ, suc, ◌+◌, ◌-◌, ◌*◌, �
 use Rattle.std.specs.Prelude.{not}
 use Rattle.std.specs.Str.{bytes_eq}
 use Rattle.bytes_defs.specs.Bytes.{part}
-use Rattle.image_defs.specs.Ask.{run, each, check}
+use Rattle.image_defs.specs.Ask.{result_of, each, check}
 use Rattle.image_defs.specs.Runs.{with_value}
-use Rattle.image_defs.proofs.Runs.{run_bind_ok, run_bind_err, run_bind_done}
+use Rattle.image_defs.proofs.Runs.{result_bind_ok, result_bind_err, result_bind_done}
 use Rattle.ntfs_record_defs.specs.declared.fault.RecordFault.{RecordFault}
 use Rattle.ntfs_record_defs.specs.declared.fault.RecordFault.TheVariants.{BadFixup}
 use Rattle.ntfs_record_defs.specs.Stored.{count_from, ends_with}
@@ -21,10 +21,10 @@ status_front x (Ok more) = refl
 status_front x (Err fault) = refl
 
 counted : (bytes number : List ℕ) (stride count : ℕ) → stride < count
-    → run bytes (each (ends_with number) (count_from stride (count - stride))) ≡ run bytes (each (ends_with number) (stride ∷ count_from (suc stride) (count - suc stride)))
+    → result_of bytes (each (ends_with number) (count_from stride (count - stride))) ≡ result_of bytes (each (ends_with number) (stride ∷ count_from (suc stride) (count - suc stride)))
 counted bytes number stride count below =
     let more : count - stride ≡ suc (count - suc stride) = omega (arith, below) in
-    ap (λ n. run bytes (each (ends_with number) (count_from stride n))) more
+    ap (λ n. result_of bytes (each (ends_with number) (count_from stride n))) more
 
 pub end_passes : (bytes : List ℕ) (stride : ℕ) → stride < length bytes / 512 → is_end bytes stride ≡ true → ends_check_from bytes stride ≡ ends_check_from bytes (stride + 1)
 end_passes bytes stride below is =
@@ -32,16 +32,16 @@ end_passes bytes stride below is =
     let next : suc stride ≡ stride + 1 = omega arith in
     let rest = each (ends_with number) (count_from (suc stride) (length bytes / 512 - suc stride)) in
     ap status (counted bytes number stride (length bytes / 512) below
-    ∙ run_bind_ok bytes (ends_with number stride) _ tt (ap (λ test. run bytes (check test (BadFixup stride))) is)
-    ∙ run_bind_done bytes rest (λ more. tt ∷ more))
-    ∙ status_front tt (run bytes rest)
+    ∙ result_bind_ok bytes (ends_with number stride) _ tt (ap (λ test. result_of bytes (check test (BadFixup stride))) is)
+    ∙ result_bind_done bytes rest (λ more. tt ∷ more))
+    ∙ status_front tt (result_of bytes rest)
     ∙ ap (ends_check_from bytes) next
 
 pub end_refuses : (bytes : List ℕ) (stride : ℕ) → stride < length bytes / 512 → is_end bytes stride ≡ false → ends_check_from bytes stride ≡ Err (BadFixup stride)
 end_refuses bytes stride below is =
     let number = part bytes (header_of bytes).array 2 in
     ap status (counted bytes number stride (length bytes / 512) below
-    ∙ run_bind_err bytes (ends_with number stride) _ (BadFixup stride) (ap (λ test. run bytes (check test (BadFixup stride))) is))
+    ∙ result_bind_err bytes (ends_with number stride) _ (BadFixup stride) (ap (λ test. result_of bytes (check test (BadFixup stride))) is))
 
 -- ---- what a comparison of two parts tells
 

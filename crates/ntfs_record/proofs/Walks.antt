@@ -1,7 +1,7 @@
 -- Walks over the attributes of a record whose true bytes stand in place.
 use Rattle.std.proofs.Common.{◌≡◌, ℕ, List, [], ◌∷◌, Some, None, Result, Ok, Err, ap, ◌∙◌, subst, refl}
 use Rattle.std.specs.Prelude.{IsOk, map}
-use Rattle.image_defs.specs.Ask.{run}
+use Rattle.image_defs.specs.Ask.{result_of}
 use Rattle.image_defs.specs.Runs.{with_value}
 use Rattle.ntfs_record_defs.specs.declared.fault.RecordFault.{RecordFault}
 use Rattle.ntfs_record_defs.specs.Attributes.{Opened, attributes_from}
@@ -31,7 +31,7 @@ pub walk_steps : (bytes : List ℕ) (at : ℕ) (one : Lent) → IsWalk bytes at 
 unfolding lent_from
 walk_steps bytes at one walk is =
     let next = next_is bytes (used_of bytes) at one is in
-    let rest = run bytes (attributes_from (used_of bytes) (next_place bytes at)) in
+    let rest = result_of bytes (attributes_from (used_of bytes) (next_place bytes at)) in
     let goes = walk_goes_on bytes (used_of bytes) at one is in
     let ok : IsOk rest = rest_ok next.found rest (subst (λ (result : Result (List Opened) RecordFault). IsOk result) goes walk.sound) in
     record {
@@ -56,7 +56,7 @@ status_rest first (Err fault) = refl
 
 pub check_steps : (bytes : List ℕ) (at : ℕ) (one : Lent) → lent_next bytes (header_of bytes).used at ≡ Ok (Some one) → attributes_check_from bytes at ≡ attributes_check_from bytes (next_place bytes at)
 check_steps bytes at one is =
-    ap status (walk_goes_on bytes (used_of bytes) at one is) ∙ status_rest (next_is bytes (used_of bytes) at one is).found (run bytes (attributes_from (used_of bytes) (next_place bytes at)))
+    ap status (walk_goes_on bytes (used_of bytes) at one is) ∙ status_rest (next_is bytes (used_of bytes) at one is).found (result_of bytes (attributes_from (used_of bytes) (next_place bytes at)))
 
 pub check_passes : (bytes : List ℕ) (at : ℕ) → lent_next bytes (header_of bytes).used at ≡ Ok None → attributes_check_from bytes at ≡ Ok tt
 check_passes bytes at is = ap status (walk_ends bytes (used_of bytes) at is)

@@ -1,7 +1,7 @@
 -- The checks of a stored record, each by itself, and a record whose stride ends are filled from other places.
 use Rattle.std.specs.Prelude.{ℕ, ◌+◌, ◌-◌, ◌*◌, ◌/◌, ◌%◌, ◌≤◌, ◌==◌, nat_lt, nat_le, if◌then◌else◌, Option, Some, Result, Ok, Err, IsOk, List, length}
 use Rattle.bytes_defs.specs.Bytes.{part}
-use Rattle.image_defs.specs.Ask.{run, each}
+use Rattle.image_defs.specs.Ask.{result_of, each}
 use Rattle.image_defs.specs.Runs.{with_value}
 use Rattle.image_defs.specs.Via.{seen}
 use Rattle.ntfs_record_defs.specs.declared.fault.RecordFault.{RecordFault}
@@ -30,7 +30,7 @@ header_check bytes =
 
 -- the ends of the strides from one on
 abbrev pub ends_check_from : List ℕ → ℕ → Result (Unit {0}) RecordFault
-ends_check_from bytes stride = status (run bytes (each (ends_with (part bytes (header_of bytes).array 2)) (count_from stride (length bytes / 512 - stride))))
+ends_check_from bytes stride = status (result_of bytes (each (ends_with (part bytes (header_of bytes).array 2)) (count_from stride (length bytes / 512 - stride))))
 
 abbrev pub ends_check : List ℕ → Result (Unit {0}) RecordFault
 ends_check bytes = ends_check_from bytes 0
@@ -44,7 +44,7 @@ sizes_check bytes =
 
 -- the attributes of a record whose true bytes stand in place, from a place on
 abbrev pub attributes_check_from : List ℕ → ℕ → Result (Unit {0}) RecordFault
-attributes_check_from bytes at = status (run bytes (attributes_from (header_of bytes).used at))
+attributes_check_from bytes at = status (result_of bytes (attributes_from (header_of bytes).used at))
 
 abbrev pub attributes_check : List ℕ → Result (Unit {0}) RecordFault
 attributes_check bytes = attributes_check_from bytes (header_of bytes).first
@@ -55,7 +55,7 @@ stored_check bytes = and_check (header_check bytes) (and_check (ends_check bytes
 
 -- whether stored bytes hold a record
 abbrev pub record_check : List ℕ → Result (Unit {0}) RecordFault
-record_check stored = status (run stored (record_of (length stored)))
+record_check stored = status (result_of stored (record_of (length stored)))
 
 -- ---- filled stride ends: the first two bytes stand at `from`, and those of each next stride `step` bytes further
 
@@ -74,4 +74,4 @@ pub record IsWalk (bytes : List ℕ) (at : ℕ) : Type 0 where
   pub size : 1024 ≤ length bytes
   pub inside : (header_of bytes).used ≤ length bytes
   pub before : at ≤ (header_of bytes).used
-  pub sound : IsOk (run bytes (attributes_from (header_of bytes).used at))
+  pub sound : IsOk (result_of bytes (attributes_from (header_of bytes).used at))

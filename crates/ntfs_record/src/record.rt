@@ -1,6 +1,6 @@
 //! Records.
 ghost use Rattle.std.specs.Prelude.{◌≡◌, ◌<◌, length, IfOk, IfErr, OnOk, Ok, Err, IsOk};
-ghost use Rattle.image_defs.specs.Ask.{run};
+ghost use Rattle.image_defs.specs.Ask.{result_of};
 ghost use Rattle.bytes_defs.specs.Numbers.{little_at};
 ghost use Rattle.ntfs_record_defs.specs.Stored.{stored_place as stored_place_by};
 ghost use Rattle.ntfs_record_defs.specs.Record.{record_of};
@@ -35,8 +35,8 @@ impl<'a> FileRecord<'a> {
     /// fails is answered, and the bytes are then as they were, as `mend_bytes` ensures.
     pub fn mend(bytes: &'a mut [u8]) -> Result<FileRecord<'a>, RecordFault>
         requires { IsRecordSize (length bytes.old) }
-        ensures refused { IfErr result (λ fault. run bytes.old (record_of (length bytes.old)) ≡ Err fault) }
-        ensures sound { OnOk result (IsOk (run bytes.old (record_of (length bytes.old)))) }
+        ensures refused { IfErr result (λ fault. result_of bytes.old (record_of (length bytes.old)) ≡ Err fault) }
+        ensures sound { OnOk result (IsOk (result_of bytes.old (record_of (length bytes.old)))) }
         ensures mended { IfOk result (λ found. found ≡ mended bytes.old) }
     {
         match mend_bytes(bytes) {

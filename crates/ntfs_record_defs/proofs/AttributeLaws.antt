@@ -6,7 +6,7 @@ use Rattle.std.proofs.lemmas.Bool.Decides.{nat_tests}
 use Rattle.range_defs.specs.declared.Range.{Range}
 use Rattle.range_defs.specs.Places.{in_range, covers}
 use Rattle.bytes_defs.specs.Bytes.{part}
-use Rattle.image_defs.specs.Ask.{Ask, Done, run, ◌>>=◌}
+use Rattle.image_defs.specs.Ask.{Ask, Done, result_of, ◌>>=◌}
 use Rattle.image_defs.specs.Looks.{LooksAt}
 use Rattle.image_defs.proofs.Looks.{looks_done, looks_weaker, looks_bind, looks_bind_ok, looks_check, looks_look, bind_gives, check_gives}
 use Rattle.ntfs_record_defs.specs.declared.fault.RecordFault.{RecordFault}
@@ -66,13 +66,13 @@ laid_out used at start header room length layout =
     }
 
 -- what is opened is the attribute
-opened_is : (image : List ℕ) (attribute : Attribute) (found : Opened) → run image (opened attribute) ≡ Ok found → found.attribute ≡ attribute
+opened_is : (image : List ℕ) (attribute : Attribute) (found : Opened) → result_of image (opened attribute) ≡ Ok found → found.attribute ≡ attribute
 opened_is image attribute found gives =
     let given = bind_gives image (body_asked attribute) (λ body. Done (record { attribute = attribute; name = part image attribute.name.at attribute.name.len; body = body })) found gives in
     cc (given.2)
 
 -- an attribute that is found lies so, where its header has this size
-pub attribute_lies : (image : List ℕ) (used at : ℕ) (found : Opened) → run image (attribute_at used at) ≡ Ok found → IsLaidOut used at (header_size (is_resident (part image at 16))) found.attribute
+pub attribute_lies : (image : List ℕ) (used at : ℕ) (found : Opened) → result_of image (attribute_at used at) ≡ Ok found → IsLaidOut used at (header_size (is_resident (part image at 16))) found.attribute
 attribute_lies image used at found gives =
     let start = part image at 16 in
     let header = part image at (header_size (is_resident start)) in
@@ -83,7 +83,7 @@ attribute_lies image used at found gives =
     subst P (sym (opened_is image (attribute_of at start header) found layout.1)) (laid_out used at start header (leb-true _ _ room.0) length.0 layout.0)
 
 -- its length is that of its header
-pub attribute_length : (image : List ℕ) (used at : ℕ) (found : Opened) → run image (attribute_at used at) ≡ Ok found → found.attribute.len ≡ length_of (part image at 16)
+pub attribute_length : (image : List ℕ) (used at : ℕ) (found : Opened) → result_of image (attribute_at used at) ≡ Ok found → found.attribute.len ≡ length_of (part image at 16)
 attribute_length image used at found gives =
     let start = part image at 16 in
     let header = part image at (header_size (is_resident start)) in
@@ -125,7 +125,7 @@ least_header : (resident : Bool) → 16 ≤ header_size resident
 least_header true = lit≤ tt
 least_header false = lit≤ tt
 
-attribute_looks : (ranges : List Range) (image : List ℕ) (used at : ℕ) (found : Opened) → run image (attribute_at used at) ≡ Ok found
+attribute_looks : (ranges : List Range) (image : List ℕ) (used at : ℕ) (found : Opened) → result_of image (attribute_at used at) ≡ Ok found
     → ((i : ℕ) → at ≤ i → i < at + header_size (is_resident (part image at 16)) → covers ranges i ≡ false)
     → NoneIn ranges found.attribute.name → (is_content found.attribute ≡ false → NoneIn ranges (body_of found.attribute.form))
     → LooksAt (Avoids at ranges) image (attribute_at used at)
@@ -235,17 +235,17 @@ module _ (image : List ℕ) (used at header : ℕ) (first : Opened) (more : List
       )
 
 -- the attribute at a place, or the mark that ends them
-pub next_some : (image : List ℕ) (used at : ℕ) (found : Opened) → run image (next_attribute used at) ≡ Ok (Some found) → run image (attribute_at used at) ≡ Ok found
+pub next_some : (image : List ℕ) (used at : ℕ) (found : Opened) → result_of image (next_attribute used at) ≡ Ok (Some found) → result_of image (attribute_at used at) ≡ Ok found
 next_some image used at found gives = by_mark (is_end_mark (part image at 4)) (check_gives image (nat_le (at + 4) used) (BadField at) _ (Some found) gives).1
   where
-    by_mark : (ended : Bool) → run image (unless_ended used at ended) ≡ Ok (Some found) → run image (attribute_at used at) ≡ Ok found
+    by_mark : (ended : Bool) → result_of image (unless_ended used at ended) ≡ Ok (Some found) → result_of image (attribute_at used at) ≡ Ok found
     by_mark true gives = absurd cc
     by_mark false gives =
         let one = bind_gives image (attribute_at used at) (λ found. Done (Some found)) (Some found) gives in
         let same : one.0 ≡ found = cc (one.2) in
         one.1 ∙ ap Ok same
 
-next_looks : (ranges : List Range) (image : List ℕ) (used at : ℕ) (first : Option Opened) → run image (next_attribute used at) ≡ Ok first
+next_looks : (ranges : List Range) (image : List ℕ) (used at : ℕ) (first : Option Opened) → result_of image (next_attribute used at) ≡ Ok first
     → ((i : ℕ) → at ≤ i → i < at + 4 → covers ranges i ≡ false)
     → ((found : Opened) → first ≡ Some found → LooksAt (Avoids at ranges) image (attribute_at used at))
     → LooksAt (Avoids at ranges) image (next_attribute used at)
@@ -254,14 +254,14 @@ next_looks ranges image used at first gives front one =
     looks_check (Avoids at ranges) image (nat_le (at + 4) used) (BadField at) _
     (λ _. looks_look (Avoids at ranges) image at 4 _ (λ i low high. (low, front i low high)) (by_mark (is_end_mark (part image at 4)) room.1))
   where
-    by_mark : (ended : Bool) → run image (unless_ended used at ended) ≡ Ok first → LooksAt (Avoids at ranges) image (unless_ended used at ended)
+    by_mark : (ended : Bool) → result_of image (unless_ended used at ended) ≡ Ok first → LooksAt (Avoids at ranges) image (unless_ended used at ended)
     by_mark true gives = looks_done (Avoids at ranges) image None
     by_mark false gives =
         let found = bind_gives image (attribute_at used at) (λ found. Done (Some found)) first gives in
         let same : first ≡ Some found.0 = cc (found.2) in
         looks_bind (Avoids at ranges) image (attribute_at used at) _ (one found.0 same) (λ x is. looks_done (Avoids at ranges) image _)
 
-walk_ends : (image : List ℕ) (used at : ℕ) (behind : ℕ → Ask RecordFault (List Opened)) → run image (next_attribute used at) ≡ Ok None → Walk image used at (next_attribute used at >>= and_behind behind) []
+walk_ends : (image : List ℕ) (used at : ℕ) (behind : ℕ → Ask RecordFault (List Opened)) → result_of image (next_attribute used at) ≡ Ok None → Walk image used at (next_attribute used at >>= and_behind behind) []
 walk_ends image used at behind none = record {
   between = λ i covered. absurd cc;
   looks =
@@ -269,8 +269,8 @@ walk_ends image used at behind none = record {
       (next_looks [] image used at None none (λ i low high. refl) (λ found is. absurd cc)) (looks_done (Avoids at []) image []);
 }
 
-walk_on : (image : List ℕ) (used at : ℕ) (behind : ℕ → Ask RecordFault (List Opened)) (first : Opened) (more : List Opened) → run image (next_attribute used at) ≡ Ok (Some first)
-    → run image (behind (first.attribute.at + first.attribute.len)) ≡ Ok more
+walk_on : (image : List ℕ) (used at : ℕ) (behind : ℕ → Ask RecordFault (List Opened)) (first : Opened) (more : List Opened) → result_of image (next_attribute used at) ≡ Ok (Some first)
+    → result_of image (behind (first.attribute.at + first.attribute.len)) ≡ Ok more
     → Walk image used (first.attribute.at + first.attribute.len) (behind (first.attribute.at + first.attribute.len)) more
     → Walk image used at (next_attribute used at >>= and_behind behind) (first ∷ more)
 walk_on image used at behind first more next rest walk =
@@ -292,8 +292,8 @@ walk_on image used at behind first more next rest walk =
     }
 
 walk_with : (image : List ℕ) (used at : ℕ) (behind : ℕ → Ask RecordFault (List Opened)) (found : List Opened)
-    → ((place : ℕ) (more : List Opened) → run image (behind place) ≡ Ok more → Walk image used place (behind place) more)
-    → (first : Option Opened) → run image (next_attribute used at) ≡ Ok first → run image (and_behind behind first) ≡ Ok found
+    → ((place : ℕ) (more : List Opened) → result_of image (behind place) ≡ Ok more → Walk image used place (behind place) more)
+    → (first : Option Opened) → result_of image (next_attribute used at) ≡ Ok first → result_of image (and_behind behind first) ≡ Ok found
     → Walk image used at (next_attribute used at >>= and_behind behind) found
 walk_with image used at behind found later None next gives =
     let P : List Opened → Type 0 = Walk image used at (next_attribute used at >>= and_behind behind) in
@@ -307,7 +307,7 @@ walk_with image used at behind found later (Some first) next gives =
     subst P same (walk_on image used at behind first rest.0 next rest.1 (later place rest.0 rest.1))
 
 -- the attributes lie in the used bytes from their place on, and nothing of the content of a resident $DATA is looked at
-pub attributes_look : (count used at : ℕ) (image : List ℕ) (found : List Opened) → run image (attributes_within count used at) ≡ Ok found
+pub attributes_look : (count used at : ℕ) (image : List ℕ) (found : List Opened) → result_of image (attributes_within count used at) ≡ Ok found
     → Walk image used at (attributes_within count used at) found
 unfolding attributes_within
 attributes_look zero used at image found gives = absurd cc

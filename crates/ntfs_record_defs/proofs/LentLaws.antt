@@ -5,14 +5,14 @@ use Rattle.std.proofs.Common.{arith, lit≤, lit<, ap, sym, ◌∙◌, subst, �
 use Rattle.std.proofs.lemmas.Bool.{leb-true}
 use Rattle.std.proofs.lemmas.List.{length-take}
 use Rattle.bytes_defs.specs.Bytes.{part}
-use Rattle.image_defs.specs.Ask.{Ask, Done, run, look, check, ◌>>=◌, ◌>>◌}
+use Rattle.image_defs.specs.Ask.{Ask, Done, result_of, look, check, ◌>>=◌, ◌>>◌}
 use Rattle.image_defs.specs.Runs.{with_value}
-use Rattle.image_defs.proofs.Runs.{run_bind_done}
+use Rattle.image_defs.proofs.Runs.{result_bind_done}
 use Rattle.image_defs.proofs.Looks.{bind_gives, check_gives}
 use Rattle.bytes_defs.specs.declared.order.Order.TheVariants.{Little}
 use Rattle.bytes_defs.proofs.NumberLaws.{number_at_part}
 use Rattle.image_defs.specs.Via.{seen_from, seen}
-use Rattle.image_defs.proofs.ViaLaws.{run_via, part_seen, seen_run}
+use Rattle.image_defs.proofs.ViaLaws.{result_via, part_seen, seen_run}
 use Rattle.ntfs_record_defs.specs.declared.fault.RecordFault.{RecordFault}
 use Rattle.ntfs_record_defs.specs.declared.fault.RecordFault.TheVariants.{BadField}
 use Rattle.ntfs_record_defs.specs.Stored.{stored_at}
@@ -24,21 +24,21 @@ use Rattle.ntfs_record_defs.proofs.RecordLaws.{record_found}
 use Rattle.ntfs_record_defs.specs.Lent.{Lent, lent, lent_form, lent_with, lent_behind, lent_at, lent_next, lent_all, lent_from, body_place, body_bytes, RiseFrom, AreApart, IsMended, mended}
 use Rattle.ntfs_record_defs.specs.LentLaws.{MendedLends, lent_of}
 
-behind_check : {X Y : Type 0} (bytes : List ℕ) (test : Bool) (fault : RecordFault) (next : Ask RecordFault X) (change : X → Y) (result : Result Y RecordFault) → with_value change (run bytes next) ≡ result
-    → with_value change (run bytes (check test fault >> next)) ≡ (if test then result else Err fault)
+behind_check : {X Y : Type 0} (bytes : List ℕ) (test : Bool) (fault : RecordFault) (next : Ask RecordFault X) (change : X → Y) (result : Result Y RecordFault) → with_value change (result_of bytes next) ≡ result
+    → with_value change (result_of bytes (check test fault >> next)) ≡ (if test then result else Err fault)
 behind_check bytes true fault next change result is = is
 behind_check bytes false fault next change result is = refl
 
-opened_lent : (bytes : List ℕ) (attribute : Attribute) → with_value (lent_of bytes) (run bytes (opened attribute)) ≡ Ok (lent bytes attribute)
+opened_lent : (bytes : List ℕ) (attribute : Attribute) → with_value (lent_of bytes) (result_of bytes (opened attribute)) ≡ Ok (lent bytes attribute)
 opened_lent bytes attribute = by_kind (is_content attribute)
   where
     by_kind : (content : Bool)
-        → with_value (lent_of bytes) (run bytes (if◌then◌else◌ {A = Ask RecordFault (List ℕ)} content (Done []) (look_in (body_of attribute.form)) >>= (λ body. Done (record { attribute = attribute; name = part bytes attribute.name.at attribute.name.len; body = body }))))
+        → with_value (lent_of bytes) (result_of bytes (if◌then◌else◌ {A = Ask RecordFault (List ℕ)} content (Done []) (look_in (body_of attribute.form)) >>= (λ body. Done (record { attribute = attribute; name = part bytes attribute.name.at attribute.name.len; body = body }))))
         ≡ Ok (lent bytes attribute)
     by_kind true = refl
     by_kind false = refl
 
-attribute_lent : (bytes : List ℕ) (used at : ℕ) → with_value (lent_of bytes) (run bytes (attribute_at used at)) ≡ lent_at bytes used at
+attribute_lent : (bytes : List ℕ) (used at : ℕ) → with_value (lent_of bytes) (result_of bytes (attribute_at used at)) ≡ lent_at bytes used at
 attribute_lent bytes used at =
     let start = part bytes at 16 in
     let header = part bytes at (header_size (is_resident start)) in
@@ -51,16 +51,16 @@ some_lent : (bytes : List ℕ) (result : Result Opened RecordFault) → with_val
 some_lent bytes (Ok found) = refl
 some_lent bytes (Err fault) = refl
 
-pub next_lent : (bytes : List ℕ) (used at : ℕ) → with_value (option_map (lent_of bytes)) (run bytes (next_attribute used at)) ≡ lent_next bytes used at
+pub next_lent : (bytes : List ℕ) (used at : ℕ) → with_value (option_map (lent_of bytes)) (result_of bytes (next_attribute used at)) ≡ lent_next bytes used at
 unfolding lent_next
 next_lent bytes used at =
     behind_check bytes (nat_le (at + 4) used) (BadField at) (look at 4 >>= (λ mark. unless_ended used at (is_end_mark mark))) (option_map (lent_of bytes)) _ (by_mark (is_end_mark (part bytes at 4)))
   where
-    by_mark : (ended : Bool) → with_value (option_map (lent_of bytes)) (run bytes (unless_ended used at ended)) ≡ (if ended then Ok None else with_value Some (lent_at bytes used at))
+    by_mark : (ended : Bool) → with_value (option_map (lent_of bytes)) (result_of bytes (unless_ended used at ended)) ≡ (if ended then Ok None else with_value Some (lent_at bytes used at))
     by_mark true = refl
     by_mark false =
-        ap (with_value (option_map (lent_of bytes))) (run_bind_done bytes (attribute_at used at) Some)
-        ∙ some_lent bytes (run bytes (attribute_at used at))
+        ap (with_value (option_map (lent_of bytes))) (result_bind_done bytes (attribute_at used at) Some)
+        ∙ some_lent bytes (result_of bytes (attribute_at used at))
         ∙ ap (with_value Some) (attribute_lent bytes used at)
 
 -- ---- the spans of the attributes
@@ -78,15 +78,15 @@ some_header : (resident : Bool) → 0 < header_size resident
 some_header true = lit< tt
 some_header false = lit< tt
 
-attributes_rise : (bytes : List ℕ) (count used at : ℕ) (found : List Opened) → run bytes (attributes_within count used at) ≡ Ok found → RiseFrom used at (map (lent_of bytes) found)
+attributes_rise : (bytes : List ℕ) (count used at : ℕ) (found : List Opened) → result_of bytes (attributes_within count used at) ≡ Ok found → RiseFrom used at (map (lent_of bytes) found)
 unfolding attributes_within
 attributes_rise bytes zero used at found gives = absurd cc
 attributes_rise bytes (suc count) used at found gives =
     let first = bind_gives bytes (next_attribute used at) (and_behind (attributes_within count used)) found gives in
     by_first first.0 first.1 first.2 (λ place more is. attributes_rise bytes count used place more is)
   where
-    by_first : (first : Option Opened) → run bytes (next_attribute used at) ≡ Ok first → run bytes (and_behind (attributes_within count used) first) ≡ Ok found
-        → ((place : ℕ) (more : List Opened) → run bytes (attributes_within count used place) ≡ Ok more → RiseFrom used place (map (lent_of bytes) more)) → RiseFrom used at (map (lent_of bytes) found)
+    by_first : (first : Option Opened) → result_of bytes (next_attribute used at) ≡ Ok first → result_of bytes (and_behind (attributes_within count used) first) ≡ Ok found
+        → ((place : ℕ) (more : List Opened) → result_of bytes (attributes_within count used place) ≡ Ok more → RiseFrom used place (map (lent_of bytes) more)) → RiseFrom used at (map (lent_of bytes) found)
     by_first None next gives later =
         let room = check_gives bytes (nat_le (at + 4) used) (BadField at) (λ x. look at 4 >>= (λ mark. unless_ended used at (is_end_mark mark))) None next in
         let none : [] ≡ found = cc in
@@ -106,9 +106,9 @@ attributes_rise bytes (suc count) used at found gives =
 
 pub mended_apart : (bytes : List ℕ) → IsMended bytes → AreApart bytes
 unfolding lent_from
-mended_apart bytes mended = by_result (run bytes (attributes_from (header_of bytes).used (header_of bytes).first)) refl mended.sound
+mended_apart bytes mended = by_result (result_of bytes (attributes_from (header_of bytes).used (header_of bytes).first)) refl mended.sound
   where
-    by_result : (result : Result (List Opened) RecordFault) → run bytes (attributes_from (header_of bytes).used (header_of bytes).first) ≡ result → IsOk result
+    by_result : (result : Result (List Opened) RecordFault) → result_of bytes (attributes_from (header_of bytes).used (header_of bytes).first) ≡ result → IsOk result
         → RiseFrom (header_of bytes).used (header_of bytes).first (lent_all bytes result)
     by_result (Ok found) is ok = attributes_rise bytes ((header_of bytes).used - (header_of bytes).first) (header_of bytes).used (header_of bytes).first found is
     by_result (Err fault) is ok = absurd cc
@@ -147,8 +147,8 @@ mended_lends stored found size gives =
     let is = record_found stored (length stored) found long.1 gives in
     let header : found.header ≡ header_of (mended stored) = sym is.header_is ∙ header_front stored ∙ sym (header_mended stored long.0) in
     let own : found.header ≡ header_of stored = sym is.header_is ∙ header_front stored in
-    let true_is = sym (run_via stored (stored_at found.header.array) (length stored) (attributes_from found.header.used found.header.first)) ∙ is.attributes in
+    let true_is = sym (result_via stored (stored_at found.header.array) (length stored) (attributes_from found.header.used found.header.first)) ∙ is.attributes in
     ap (lent_all (mended stored))
-    (ap (λ (header : Header). run (mended stored) (attributes_from header.used header.first)) (sym header)
-    ∙ ap (λ (header : Header). run (seen stored (stored_at header.array) (length stored)) (attributes_from found.header.used found.header.first)) (sym own)
+    (ap (λ (header : Header). result_of (mended stored) (attributes_from header.used header.first)) (sym header)
+    ∙ ap (λ (header : Header). result_of (seen stored (stored_at header.array) (length stored)) (attributes_from found.header.used found.header.first)) (sym own)
     ∙ true_is)

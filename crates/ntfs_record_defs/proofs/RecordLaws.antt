@@ -7,13 +7,13 @@ use Rattle.std.specs.Str.{bytes_eq}
 use Rattle.range_defs.specs.declared.Range.{Range}
 use Rattle.range_defs.specs.Places.{covers}
 use Rattle.bytes_defs.specs.Bytes.{part}
-use Rattle.image_defs.specs.Ask.{run, each}
-use Rattle.image_defs.proofs.Agreement.{run_agree}
+use Rattle.image_defs.specs.Ask.{result_of, each}
+use Rattle.image_defs.proofs.Agreement.{result_agree}
 use Rattle.image_defs.specs.Looks.{LooksAt}
 use Rattle.image_defs.proofs.Looks.{looks_nowhere, looks_done, looks_weaker, looks_bind, looks_check, looks_look, looks_each, bind_gives, check_gives}
 use Rattle.image_defs.specs.Via.{via, seen}
 use Rattle.image_defs.specs.ViaLaws.{LiesIn}
-use Rattle.image_defs.proofs.ViaLaws.{run_via, looks_via, AtPlaces, agree_on_looks}
+use Rattle.image_defs.proofs.ViaLaws.{result_via, looks_via, AtPlaces, agree_on_looks}
 use Rattle.ntfs_record_defs.specs.declared.fault.RecordFault.{RecordFault}
 use Rattle.ntfs_record_defs.specs.declared.fault.RecordFault.TheVariants.{NotFile, BadFixup, BadField}
 use Rattle.ntfs_record_defs.specs.Stored.{stored_place, stored_at, entries, array_end, is_array, count_from, ends_with}
@@ -62,9 +62,9 @@ stride_looks size found sound stored number stride =
     (looks_nowhere (LiesIn (NoContentPlace found)) stored _ (visits_check stored (bytes_eq (part stored (512 * stride + 510) 2) number) (BadFixup stride)))
 
 attributes_clear : (size : ℕ) (found : FileRecord) (sound : IsSoundHeader size found.header found.attributes) (stored : List ℕ)
-    → run stored (stored_attributes size found.header) ≡ Ok found.attributes → LooksAt (LiesIn (NoContentPlace found)) stored (stored_attributes size found.header)
+    → result_of stored (stored_attributes size found.header) ≡ Ok found.attributes → LooksAt (LiesIn (NoContentPlace found)) stored (stored_attributes size found.header)
 attributes_clear size found sound stored gives =
-    let true_gives = sym (run_via stored (stored_at found.header.array) size (attributes_from found.header.used found.header.first)) ∙ gives in
+    let true_gives = sym (result_via stored (stored_at found.header.array) size (attributes_from found.header.used found.header.first)) ∙ gives in
     let walk = attributes_look _ found.header.used found.header.first (seen stored (stored_at found.header.array) size) found.attributes true_gives in
     looks_via (LiesIn (NoContentPlace found)) stored (stored_at found.header.array) size (attributes_from found.header.used found.header.first)
     (looks_weaker (Avoids found.header.first (contents found.attributes)) (AtPlaces (stored_at found.header.array) size (LiesIn (NoContentPlace found)))
@@ -74,11 +74,11 @@ attributes_clear size found sound stored gives =
 
 pub record IsFound (stored : List ℕ) (size : ℕ) (header : Header) (found : FileRecord) : Type 0 where
   pub header_is : header ≡ found.header
-  pub attributes : run stored (stored_attributes size found.header) ≡ Ok found.attributes
+  pub attributes : result_of stored (stored_attributes size found.header) ≡ Ok found.attributes
   pub sound : IsSoundHeader size found.header found.attributes
 
 sound_of : (stored : List ℕ) (size : ℕ) (header : Header) (attributes : List Opened) → size % 512 ≡ 0 → is_array size header.array ≡ true → nat_le (array_end size header.array) header.first ≡ true
-    → is_used_size size header ≡ true → run stored (stored_attributes size header) ≡ Ok attributes → IsSoundHeader size header attributes
+    → is_used_size size header ≡ true → result_of stored (stored_attributes size header) ≡ Ok attributes → IsSoundHeader size header attributes
 sound_of stored size header attributes whole array first used gives =
     let placed = and_parts (nat_le 42 header.array) (header.array % 2 == 0 && nat_le (array_end size header.array) 510) array in
     let ends = and_parts (header.array % 2 == 0) (nat_le (array_end size header.array) 510) placed.1 in
@@ -90,10 +90,10 @@ sound_of stored size header attributes whole array first used gives =
       behind_array = leb-true _ _ first;
       inside = leb-true _ _ sizes.0;
       between = (attributes_look _ header.used header.first (seen stored (stored_at header.array) size) attributes
-          (sym (run_via stored (stored_at header.array) size (attributes_from header.used header.first)) ∙ gives)).between;
+          (sym (result_via stored (stored_at header.array) size (attributes_from header.used header.first)) ∙ gives)).between;
     }
 
-pub behind_found : (stored : List ℕ) (size : ℕ) (header : Header) (found : FileRecord) → size % 512 ≡ 0 → run stored (record_behind size header) ≡ Ok found → IsFound stored size header found
+pub behind_found : (stored : List ℕ) (size : ℕ) (header : Header) (found : FileRecord) → size % 512 ≡ 0 → result_of stored (record_behind size header) ≡ Ok found → IsFound stored size header found
 unfolding record_behind
 behind_found stored size header found whole gives =
     let count = check_gives stored (header.count == entries size) (BadField 6) _ found gives in
@@ -110,7 +110,7 @@ behind_found stored size header found whole gives =
       sound = sound_of stored size header rest.0 whole array.0 first.0 used.0 rest.1;
     })
 
-within_looks : (stored : List ℕ) (size : ℕ) (found : FileRecord) → IsSoundHeader size found.header found.attributes → run stored (stored_attributes size found.header) ≡ Ok found.attributes
+within_looks : (stored : List ℕ) (size : ℕ) (found : FileRecord) → IsSoundHeader size found.header found.attributes → result_of stored (stored_attributes size found.header) ≡ Ok found.attributes
     → LooksAt (LiesIn (NoContentPlace found)) stored (record_within size found.header)
 within_looks stored size found sound gives =
     let P = LiesIn (NoContentPlace found) in
@@ -119,7 +119,7 @@ within_looks stored size found sound gives =
     (λ _. looks_bind P stored (stored_attributes size found.header) _ (attributes_clear size found sound stored gives)
     (λ attributes is. looks_done P stored _)))
 
-pub behind_looks : (stored : List ℕ) (size : ℕ) (found : FileRecord) → IsSoundHeader size found.header found.attributes → run stored (stored_attributes size found.header) ≡ Ok found.attributes
+pub behind_looks : (stored : List ℕ) (size : ℕ) (found : FileRecord) → IsSoundHeader size found.header found.attributes → result_of stored (stored_attributes size found.header) ≡ Ok found.attributes
     → LooksAt (LiesIn (NoContentPlace found)) stored (record_behind size found.header)
 unfolding record_behind
 behind_looks stored size found sound gives =
@@ -132,14 +132,14 @@ behind_looks stored size found sound gives =
     (looks_each P stored (ends_with number) (count_from 0 (size / 512)) (stride_looks size found sound stored number))
     (λ units are. within_looks stored size found sound gives))))
 
-pub record_found : (stored : List ℕ) (size : ℕ) (found : FileRecord) → size % 512 ≡ 0 → run stored (record_of size) ≡ Ok found → IsFound stored size (header_of (part stored 0 42)) found
+pub record_found : (stored : List ℕ) (size : ℕ) (found : FileRecord) → size % 512 ≡ 0 → result_of stored (record_of size) ≡ Ok found → IsFound stored size (header_of (part stored 0 42)) found
 unfolding record_of
 record_found stored size found whole gives =
     let file = check_gives stored (is_file (part stored 0 42)) NotFile _ found gives in
     behind_found stored size (header_of (part stored 0 42)) found whole file.1
 
 -- no byte at which a record looks is a place of the content of a resident $DATA of that same record
-pub record_clear : (stored : List ℕ) (size : ℕ) (found : FileRecord) → size % 512 ≡ 0 → run stored (record_of size) ≡ Ok found
+pub record_clear : (stored : List ℕ) (size : ℕ) (found : FileRecord) → size % 512 ≡ 0 → result_of stored (record_of size) ≡ Ok found
     → LooksAt (LiesIn (NoContentPlace found)) stored (record_of size)
 unfolding record_of
 record_clear stored size found whole gives =
@@ -151,10 +151,10 @@ record_clear stored size found whole gives =
     (λ _. subst Q (sym is.header_is) (behind_looks stored size found is.sound is.attributes)))
 
 -- so a record that is stored with other content is the same record
-pub other_content : (a b : List ℕ) (size : ℕ) (found : FileRecord) → size % 512 ≡ 0 → run a (record_of size) ≡ Ok found → length a ≡ length b
-    → ((byte : ℕ) → NoContentPlace found byte → slice_get a byte ≡ slice_get b byte) → run b (record_of size) ≡ Ok found
+pub other_content : (a b : List ℕ) (size : ℕ) (found : FileRecord) → size % 512 ≡ 0 → result_of a (record_of size) ≡ Ok found → length a ≡ length b
+    → ((byte : ℕ) → NoContentPlace found byte → slice_get a byte ≡ slice_get b byte) → result_of b (record_of size) ≡ Ok found
 other_content a b size found whole gives same_length same =
-    run_agree (record_of size) a b (agree_on_looks (NoContentPlace found) (record_of size) a b same_length same (record_clear a size found whole gives)) ∙ gives
+    result_agree (record_of size) a b (agree_on_looks (NoContentPlace found) (record_of size) a b same_length same (record_clear a size found whole gives)) ∙ gives
 
 kept_places : (place : ℕ → Option ℕ) (size : ℕ) (found : FileRecord) (range : Range) → LiesIn (NoContentPlace found) range → AtPlaces place size (LiesIn (IsKept place size found)) range
 kept_places place size found range lies i p low high inside is byte from to =
@@ -162,9 +162,9 @@ kept_places place size found range lies i p low high inside is byte from to =
     (i, inside, is ∙ ap Some same, lies i low high)
 
 -- an image at which a record looks: each byte is that of a stored byte which is no place of the record's content
-pub image_clear : (image : List ℕ) (place : ℕ → Option ℕ) (size : ℕ) (found : FileRecord) → size % 512 ≡ 0 → run image (via place size (record_of size)) ≡ Ok found
+pub image_clear : (image : List ℕ) (place : ℕ → Option ℕ) (size : ℕ) (found : FileRecord) → size % 512 ≡ 0 → result_of image (via place size (record_of size)) ≡ Ok found
     → LooksAt (LiesIn (IsKept place size found)) image (via place size (record_of size))
 image_clear image place size found whole gives =
     looks_via (LiesIn (IsKept place size found)) image place size (record_of size)
     (looks_weaker (LiesIn (NoContentPlace found)) (AtPlaces place size (LiesIn (IsKept place size found))) (seen image place size) (record_of size) (kept_places place size found)
-    (record_clear (seen image place size) size found whole (sym (run_via image place size (record_of size)) ∙ gives)))
+    (record_clear (seen image place size) size found whole (sym (result_via image place size (record_of size)) ∙ gives)))

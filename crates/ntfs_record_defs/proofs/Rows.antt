@@ -1,7 +1,7 @@
 -- What the definitions say of some records, worked out by hand.
 use Rattle.std.specs.Prelude.{◌≡◌, ℕ, zero, suc, ◌+◌, ◌-◌, ◌*◌, ◌/◌, ◌%◌, Result, Ok, Err, List, [], ◌∷◌, ◌++◌, length, map, replicate, take, drop, refl}
 use Rattle.bytes_defs.specs.Bytes.{part}
-use Rattle.image_defs.specs.Ask.{run}
+use Rattle.image_defs.specs.Ask.{result_of}
 use Rattle.image_defs.specs.Runs.{with_value}
 use Rattle.image_defs.specs.Via.{via, look_bytes, seen_from}
 use Rattle.bytes_defs.specs.Numbers.{number_at}
@@ -92,7 +92,7 @@ small_attribute = record {
   body = replicate 72 5;
 }
 
-small_record : run (written 2 56 160 one_attribute) (record_of 1024) ≡ Ok (record { header = small_header; attributes = small_attribute ∷ [] })
+small_record : result_of (written 2 56 160 one_attribute) (record_of 1024) ≡ Ok (record { header = small_header; attributes = small_attribute ∷ [] })
 unfolding record_of record_behind header_of via look_bytes attributes_within is_length is_layout part number_at stored_place
 small_record = refl
 
@@ -105,7 +105,7 @@ abbrev places : Result FileRecord RecordFault → Result (List ℕ) RecordFault
 places found = with_value (λ found. map (λ opened. opened.attribute.at) found.attributes) found
 
 -- in a record of 4,096 bytes too, of which the last two bytes stand in the last entry of the array
-large_record : places (run (written 8 72 176 one_attribute) (record_of 4096)) ≡ Ok (72 ∷ [])
+large_record : places (result_of (written 8 72 176 one_attribute) (record_of 4096)) ≡ Ok (72 ∷ [])
 unfolding record_of record_behind header_of via look_bytes attributes_within is_length is_layout part number_at stored_place
 large_record = refl
 
@@ -123,7 +123,7 @@ counted from (suc count) = from ∷ counted (suc from) count
 abbrev over_an_end : List ℕ
 over_an_end = written 2 56 528 (resident 0x10 424 (replicate 400 5) ++ resident 0x80 40 (counted 1 16) ++ end_mark)
 
-content_over_an_end : with_value (λ found. contents found.attributes) (run over_an_end (record_of 1024)) ≡ Ok (record { at = 504; len = 16 } ∷ [])
+content_over_an_end : with_value (λ found. contents found.attributes) (result_of over_an_end (record_of 1024)) ≡ Ok (record { at = 504; len = 16 } ∷ [])
 unfolding record_of record_behind header_of via look_bytes attributes_within is_length is_layout part number_at stored_place
 content_over_an_end = refl
 
@@ -136,7 +136,7 @@ unfolding part stored_place seen_from
 true_over_an_end = refl
 
 -- an attribute whose first two bytes stand in the array
-attribute_at_an_end : places (run (written 2 510 558 (resident 0x80 40 (counted 1 16) ++ end_mark)) (record_of 1024)) ≡ Ok (510 ∷ [])
+attribute_at_an_end : places (result_of (written 2 510 558 (resident 0x80 40 (counted 1 16) ++ end_mark)) (record_of 1024)) ≡ Ok (510 ∷ [])
 unfolding record_of record_behind header_of via look_bytes attributes_within is_length is_layout part number_at stored_place
 attribute_at_an_end = refl
 
@@ -146,26 +146,26 @@ attribute_at_an_end = refl
 abbrev spoilt : ℕ → List ℕ → List ℕ
 spoilt at bytes = take at bytes ++ 1 ∷ drop (at + 1) bytes
 
-no_file : run (spoilt 3 (written 2 56 160 one_attribute)) (record_of 1024) ≡ Err NotFile
+no_file : result_of (spoilt 3 (written 2 56 160 one_attribute)) (record_of 1024) ≡ Err NotFile
 unfolding record_of part
 no_file = refl
 
-second_end_wrong : run (spoilt 1022 over_an_end) (record_of 1024) ≡ Err (BadFixup 1)
+second_end_wrong : result_of (spoilt 1022 over_an_end) (record_of 1024) ≡ Err (BadFixup 1)
 unfolding record_of record_behind header_of part number_at
 second_end_wrong = refl
 
 -- of two wrong ends the first is told
-both_ends_wrong : run (spoilt 511 (spoilt 1022 over_an_end)) (record_of 1024) ≡ Err (BadFixup 0)
+both_ends_wrong : result_of (spoilt 511 (spoilt 1022 over_an_end)) (record_of 1024) ≡ Err (BadFixup 0)
 unfolding record_of record_behind header_of part number_at
 both_ends_wrong = refl
 
-wrong_count : run (stored 2 48 (padded 1024 (header_bytes 48 2 56 160))) (record_of 1024) ≡ Err (BadField 6)
+wrong_count : result_of (stored 2 48 (padded 1024 (header_bytes 48 2 56 160))) (record_of 1024) ≡ Err (BadField 6)
 unfolding record_of record_behind header_of part number_at
 wrong_count = refl
 
 -- an array that ends at 510, and one that ends behind it, at an odd byte, or in the header
 abbrev array_at : ℕ → Result (List ℕ) RecordFault
-array_at array = places (run (stored 2 array (padded 1024 (padded 512 (header_bytes array 3 512 520) ++ end_mark))) (record_of 1024))
+array_at array = places (result_of (stored 2 array (padded 1024 (padded 512 (header_bytes array 3 512 520) ++ end_mark))) (record_of 1024))
 
 last_array : array_at 504 ≡ Ok []
 unfolding record_of record_behind header_of via look_bytes attributes_within part number_at stored_place
@@ -176,13 +176,13 @@ unfolding record_of record_behind header_of part number_at
 wrong_arrays = refl
 
 -- an array over the first attribute
-first_too_early : run (written 2 50 160 one_attribute) (record_of 1024) ≡ Err (BadField 20)
+first_too_early : result_of (written 2 50 160 one_attribute) (record_of 1024) ≡ Err (BadField 20)
 unfolding record_of record_behind header_of part number_at
 first_too_early = refl
 
 -- used sizes: past the record, and without place for the mark that ends the attributes
 abbrev used_up_to : ℕ → Result (List ℕ) RecordFault
-used_up_to used = places (run (written 2 56 used one_attribute) (record_of 1024))
+used_up_to used = places (result_of (written 2 56 used one_attribute) (record_of 1024))
 
 wrong_used_sizes : map used_up_to (1025 ∷ 59 ∷ []) ≡ Err (BadField 24) ∷ Err (BadField 24) ∷ []
 unfolding record_of record_behind header_of part number_at
@@ -194,19 +194,19 @@ unfolding record_of record_behind header_of via look_bytes attributes_within is_
 ends_of_attributes = refl
 
 -- the end mark alone
-no_attributes : places (run (written 2 56 60 end_mark) (record_of 1024)) ≡ Ok []
+no_attributes : places (result_of (written 2 56 60 end_mark) (record_of 1024)) ≡ Ok []
 unfolding record_of record_behind header_of via look_bytes attributes_within part number_at stored_place
 no_attributes = refl
 
 -- no end mark up to the end of the record
-no_end : places (run (written 2 56 1024 (resident 0x10 968 [])) (record_of 1024)) ≡ Err (BadField 1024)
+no_end : places (result_of (written 2 56 1024 (resident 0x10 968 [])) (record_of 1024)) ≡ Err (BadField 1024)
 unfolding record_of record_behind header_of via look_bytes attributes_within is_length is_layout part number_at stored_place
 no_end = refl
 
 -- ---- one attribute at 56, up to used size 184
 
 abbrev with_attribute : List ℕ → Result (List ℕ) RecordFault
-with_attribute bytes = places (run (written 2 56 184 (bytes ++ end_mark)) (record_of 1024))
+with_attribute bytes = places (result_of (written 2 56 184 (bytes ++ end_mark)) (record_of 1024))
 
 -- lengths: no multiple of 8, below the header, past the used size
 wrong_lengths : map (λ len. with_attribute (resident 0x10 len [])) (28 ∷ 16 ∷ 136 ∷ []) ≡ Err (BadField 56) ∷ Err (BadField 56) ∷ Err (BadField 56) ∷ []
@@ -252,6 +252,6 @@ clustered_attribute = record {
   body = 0x11 ∷ 2 ∷ 5 ∷ 0 ∷ 0 ∷ 0 ∷ 0 ∷ 0 ∷ [];
 }
 
-clustered : with_value (λ found. found.attributes) (run (written 2 56 136 (in_clusters 72 64 (0x11 ∷ 2 ∷ 5 ∷ 0 ∷ []) ++ end_mark)) (record_of 1024)) ≡ Ok (clustered_attribute ∷ [])
+clustered : with_value (λ found. found.attributes) (result_of (written 2 56 136 (in_clusters 72 64 (0x11 ∷ 2 ∷ 5 ∷ 0 ∷ []) ++ end_mark)) (record_of 1024)) ≡ Ok (clustered_attribute ∷ [])
 unfolding record_of record_behind header_of via look_bytes attributes_within is_length is_layout part number_at stored_place
 clustered = refl

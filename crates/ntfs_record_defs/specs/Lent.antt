@@ -2,7 +2,7 @@
 use Rattle.std.specs.Prelude.{◌+◌, ◌-◌, ◌<◌, ◌≤◌, ◌∷◌, nat_le, if◌then◌else◌, ◌≡◌, ℕ, ◌⊎◌, true, Option, Some, None, Result, Ok, Err, List, [], map, length, IsOk}
 use Rattle.range_defs.specs.declared.Range.{Range}
 use Rattle.bytes_defs.specs.Bytes.{part}
-use Rattle.image_defs.specs.Ask.{run}
+use Rattle.image_defs.specs.Ask.{result_of}
 use Rattle.image_defs.specs.Runs.{with_value}
 use Rattle.ntfs_record_defs.specs.declared.fault.RecordFault.{RecordFault}
 use Rattle.ntfs_record_defs.specs.declared.fault.RecordFault.TheVariants.{BadField}
@@ -66,7 +66,7 @@ lent_all bytes (Ok found) = map (λ opened. lent bytes opened.attribute) found
 lent_all bytes (Err fault) = []
 
 unfoldable pub lent_from : List ℕ → ℕ → List Lent
-lent_from bytes at = lent_all bytes (run bytes (attributes_from (header_of bytes).used at))
+lent_from bytes at = lent_all bytes (result_of bytes (attributes_from (header_of bytes).used at))
 
 abbrev pub lent_attributes : List ℕ → List Lent
 lent_attributes bytes = lent_from bytes (header_of bytes).first
@@ -99,7 +99,7 @@ pub record IsMended (bytes : List ℕ) : Type 0 where
   pub size : IsRecordSize (length bytes)
   pub array : is_array (length bytes) (header_of bytes).array ≡ true
   pub used : is_used_size (length bytes) (header_of bytes) ≡ true
-  pub sound : IsOk (run bytes (attributes_from (header_of bytes).used (header_of bytes).first))
+  pub sound : IsOk (result_of bytes (attributes_from (header_of bytes).used (header_of bytes).first))
 
 -- the record that stored bytes hold, its true bytes in place
 abbrev pub mended : List ℕ → List ℕ

@@ -1,6 +1,6 @@
 //! Laws of file records.
 ghost use Rattle.std.specs.Prelude.{◌≡◌, ◌%◌, ℕ, List, Ok, length, slice_get, Option};
-ghost use Rattle.image_defs.specs.Ask.{run};
+ghost use Rattle.image_defs.specs.Ask.{result_of};
 ghost use Rattle.image_defs.specs.Looks.{LooksAt};
 ghost use Rattle.image_defs.specs.Via.{via};
 ghost use Rattle.image_defs.specs.ViaLaws.{LiesIn};
@@ -11,20 +11,20 @@ ghost use Rattle.ntfs_record_defs.specs.RecordLaws.{NoContentPlace, IsKept};
 
 /// No byte at which a record looks is a place of the content of a resident `$DATA` of that same record.
 pub fn a_record_looks_at_no_content_of_its_own()
-    ensures { (stored : List ℕ) (size : ℕ) (found : FileRecord) → size % 512 ≡ 0 → run stored (record_of size) ≡ Ok found
+    ensures { (stored : List ℕ) (size : ℕ) (found : FileRecord) → size % 512 ≡ 0 → result_of stored (record_of size) ≡ Ok found
         → LooksAt (LiesIn (NoContentPlace found)) stored (record_of size) }
 {}
 
 /// A record that is stored with other content of its resident `$DATA` is the same record.
 pub fn a_record_with_other_content_is_the_same()
-    ensures { (a b : List ℕ) (size : ℕ) (found : FileRecord) → size % 512 ≡ 0 → run a (record_of size) ≡ Ok found → length a ≡ length b
-        → ((byte : ℕ) → NoContentPlace found byte → slice_get a byte ≡ slice_get b byte) → run b (record_of size) ≡ Ok found }
+    ensures { (a b : List ℕ) (size : ℕ) (found : FileRecord) → size % 512 ≡ 0 → result_of a (record_of size) ≡ Ok found → length a ≡ length b
+        → ((byte : ℕ) → NoContentPlace found byte → slice_get a byte ≡ slice_get b byte) → result_of b (record_of size) ≡ Ok found }
 {}
 
 /// In an image too: each byte at which a record looks is that of a stored byte which is no place of its content.
 pub fn an_image_is_looked_at_outside_the_content()
     ensures { (image : List ℕ) (place : ℕ → Option ℕ) (size : ℕ) (found : FileRecord) → size % 512 ≡ 0
-        → run image (via place size (record_of size)) ≡ Ok found → LooksAt (LiesIn (IsKept place size found)) image (via place size (record_of size)) }
+        → result_of image (via place size (record_of size)) ≡ Ok found → LooksAt (LiesIn (IsKept place size found)) image (via place size (record_of size)) }
 {}
 
 /// A mended record lends the attributes of the record that was stored, each slice from the record's true bytes.

@@ -2,12 +2,12 @@
 use Rattle.std.specs.Prelude.{ℕ, Bool, true, false, ◌==◌, Option, Some, None, List, [], ◌∷◌, ◌++◌, map}
 use Rattle.range_defs.specs.declared.Range.{Range}
 use Rattle.image_defs.specs.Ask.{Ask, Done, given, each, ◌>>=◌}
-use Rattle.rx_tree.specs.FoundPart.{FoundPart}
+use Rattle.rx_tree.specs.PartValue.{PartValue}
 use Rattle.ntfs_record_defs.specs.Attributes.{content_of}
 use Rattle.ntfs_record_defs.specs.Record.{FileRecord}
 use Rattle.ntfs_record_defs.specs.Stored.{count_from}
 use Rattle.fault_defs.specs.declared.Refusal.{Refusal}
-use Rattle.ntfs_volume_defs.specs.Slots.{Mft, Slot, Empty, Unused, Used, slots, slot_of, is_folder}
+use Rattle.ntfs_volume_defs.specs.Slots.{Mft, Slot, Empty, Unused, Used, slots, slot_of, is_directory}
 use Rattle.ntfs_volume_defs.specs.Segments.{Held}
 use Rattle.ntfs_volume_defs.specs.Names.{FoundName, file_names}
 use Rattle.ntfs_volume_defs.specs.Times.{FoundTimes, times_of}
@@ -58,19 +58,19 @@ pub record FoundFile : Type 0 where
   pub number : ℕ
   pub sequence : ℕ
   pub links : ℕ
-  pub folder : Bool
+  pub directory : Bool
   pub names : List FoundName
   pub times : Option FoundTimes
-  pub parts : List FoundPart
+  pub parts : List PartValue
   pub contents : List HeldContent
   pub lists : List Range
 
-abbrev pub file_with : ℕ → FileRecord → Assembled → List FoundName → List FoundPart → FoundFile
+abbrev pub file_with : ℕ → FileRecord → Assembled → List FoundName → List PartValue → FoundFile
 file_with number base found names parts = record {
   number = number;
   sequence = base.header.sequence;
   links = base.header.links;
-  folder = is_folder base.header;
+  directory = is_directory base.header;
   names = names;
   times = times_of found.attributes;
   parts = parts;

@@ -8,7 +8,7 @@ use Rattle.name_defs.specs.Texts.{units_text}
 use Rattle.rx_ranges.specs.declared.pieces.Piece.{Piece}
 use Rattle.rx_ranges.specs.declared.pieces.PieceKind.{PieceKind}
 use Rattle.rx_ranges.specs.declared.pieces.PieceKind.TheVariants.{Disk, Zero}
-use Rattle.rx_tree.specs.FoundPart.{FoundPart}
+use Rattle.rx_tree.specs.PartValue.{PartValue}
 use Rattle.rx_tree.specs.declared.part.Role.{Role}
 use Rattle.rx_tree.specs.declared.part.Role.TheVariants.{Content, Other}
 use Rattle.ntfs_defs.specs.declared.runs.Run.{Run}
@@ -104,7 +104,7 @@ abbrev pub part_name : ℕ → List ℕ → List ℕ
 part_name kind name = if is_content_kind kind then units_text (units_in 0 name) else other_name kind name
 
 -- a resident $DATA
-abbrev pub resident_part : Mft → Held → Range → FoundPart
+abbrev pub resident_part : Mft → Held → Range → PartValue
 resident_part mft held content = record {
   role = Content;
   name = part_name (kind_of held) (name_of held);
@@ -114,7 +114,7 @@ resident_part mft held content = record {
   unreadable = is_unreadable held;
 }
 
-abbrev pub readable_part : Mft → Held → Stream → FoundPart
+abbrev pub readable_part : Mft → Held → Stream → PartValue
 readable_part mft first stream = record {
   role = role_of (kind_of first);
   name = part_name (kind_of first) (name_of first);
@@ -125,7 +125,7 @@ readable_part mft first stream = record {
 }
 
 -- of an unreadable part the pieces are the disk runs of its run lists
-abbrev pub unreadable_part : Mft → Held → Stream → Result FoundPart Refusal
+abbrev pub unreadable_part : Mft → Held → Stream → Result PartValue Refusal
 unreadable_part mft first stream =
     if nat_lt (2 ^ 62) (mapped mft.boot stream.runs) then Err (Damaged Sizes (attribute_place mft first))
     else Ok (record {
@@ -137,17 +137,17 @@ unreadable_part mft first stream =
       unreadable = true;
     })
 
-abbrev pub stream_part : Mft → Held → Bool → Result Stream Refusal → Result FoundPart Refusal
+abbrev pub stream_part : Mft → Held → Bool → Result Stream Refusal → Result PartValue Refusal
 stream_part mft first unreadable (Err refusal) = Err refusal
 stream_part mft first true (Ok stream) = unreadable_part mft first stream
 stream_part mft first false (Ok stream) = Ok (readable_part mft first stream)
 
-abbrev pub part_by : Mft → Held → List Held → Form → Result FoundPart Refusal
+abbrev pub part_by : Mft → Held → List Held → Form → Result PartValue Refusal
 part_by mft first [] (Resident content) = Ok (resident_part mft first content)
 part_by mft first (held ∷ more) (Resident content) = Err (Damaged SegmentGap (attribute_place mft first))
 part_by mft first more (NonResident header) = stream_part mft first (list_any is_unreadable (first ∷ more)) (stream_of mft first more)
 
-abbrev pub part_of : Mft → List Held → Result FoundPart Refusal
+abbrev pub part_of : Mft → List Held → Result PartValue Refusal
 part_of mft [] = Ok (record { role = Other; name = []; size = 0; pieces = []; slack = []; unreadable = false })
 part_of mft (first ∷ more) = part_by mft first more first.opened.attribute.form
 
@@ -161,10 +161,10 @@ abbrev pub leaders : List Held → List Held
 leaders [] = []
 leaders (held ∷ more) = held ∷ filter (λ other. not (is_of (kind_of held) (name_of held) other)) (leaders more)
 
-abbrev pub parts_led_by : Mft → List Held → List Held → Result (List FoundPart) Refusal
+abbrev pub parts_led_by : Mft → List Held → List Held → Result (List PartValue) Refusal
 parts_led_by mft attributes [] = Ok []
 parts_led_by mft attributes (held ∷ more) = in_front_of (part_of mft (segments_of (kind_of held) (name_of held) attributes)) (parts_led_by mft attributes more)
 
 -- in the order of their first attributes
-unfoldable pub parts_of : Mft → List Held → Result (List FoundPart) Refusal
+unfoldable pub parts_of : Mft → List Held → Result (List PartValue) Refusal
 parts_of mft attributes = parts_led_by mft (filter is_part attributes) (leaders (filter is_part attributes))

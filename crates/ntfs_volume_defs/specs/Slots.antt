@@ -63,8 +63,8 @@ is_empty bytes = bytes_eq (take 4 bytes) (0 ∷ 0 ∷ 0 ∷ 0 ∷ [])
 abbrev pub is_in_use : Header → Bool
 is_in_use header = not (bit_and header.flags 1 == 0)
 
-abbrev pub is_folder : Header → Bool
-is_folder header = not (bit_and header.flags 2 == 0)
+abbrev pub is_directory : Header → Bool
+is_directory header = not (bit_and header.flags 2 == 0)
 
 -- a record that is in use, or isn't
 abbrev pub record_in_use : ℕ → Header → Bool → Ask SlotFault Slot

@@ -5,8 +5,8 @@ use Rattle.std.proofs.lemmas.Bool.{or_left, or_right, and_from, eq-eqb, cases_Bo
 use Rattle.std.proofs.lemmas.Bool.Decides.{nat_tests}
 use Rattle.range_defs.specs.declared.Range.{Range}
 use Rattle.range_defs.specs.Places.{in_range, covers}
-use Rattle.image_defs.specs.Ask.{Ask, run, given, each, ◌>>=◌}
-use Rattle.image_defs.proofs.Runs.{run_given}
+use Rattle.image_defs.specs.Ask.{Ask, result_of, given, each, ◌>>=◌}
+use Rattle.image_defs.proofs.Runs.{result_given}
 use Rattle.image_defs.specs.Looks.{LooksAt}
 use Rattle.image_defs.proofs.Looks.{looks_done, looks_weaker, looks_bind, looks_bind_ok, looks_check, looks_given, bind_gives, check_gives, given_gives}
 use Rattle.image_defs.specs.Via.{look_bytes}
@@ -32,8 +32,8 @@ use Rattle.ntfs_volume_defs.specs.Guard.{some_below, is_at, is_content_place, is
 use Rattle.ntfs_volume_defs.specs.Volume.{all_found}
 
 -- the programs for some items, each of which gives a value
-looks_each_ok : {E X Y : Type 0} (P : Range → Type 0) (image : List ℕ) (ask : X → Ask E Y) (xs : List X) (ys : List Y) → run image (each ask xs) ≡ Ok ys
-    → ((x : X) (y : Y) → run image (ask x) ≡ Ok y → LooksAt P image (ask x)) → LooksAt P image (each ask xs)
+looks_each_ok : {E X Y : Type 0} (P : Range → Type 0) (image : List ℕ) (ask : X → Ask E Y) (xs : List X) (ys : List Y) → result_of image (each ask xs) ≡ Ok ys
+    → ((x : X) (y : Y) → result_of image (ask x) ≡ Ok y → LooksAt P image (ask x)) → LooksAt P image (each ask xs)
 looks_each_ok P image ask [] ys gives looks = looks_done P image []
 looks_each_ok P image ask (x ∷ xs) ys gives looks =
     let first = bind_gives image (ask x) _ ys gives in
@@ -42,11 +42,11 @@ looks_each_ok P image ask (x ∷ xs) ys gives looks =
     (looks_bind_ok P image (each ask xs) _ rest.0 rest.1 (looks_each_ok P image ask xs rest.0 rest.1 looks) (looks_done P image _))
 
 -- a given value in front of a program
-pub looks_given_ok : {E X Y : Type 0} (P : Range → Type 0) (image : List ℕ) (result : Result X E) (next : X → Ask E Y) (y : Y) → run image (given result >>= next) ≡ Ok y
+pub looks_given_ok : {E X Y : Type 0} (P : Range → Type 0) (image : List ℕ) (result : Result X E) (next : X → Ask E Y) (y : Y) → result_of image (given result >>= next) ≡ Ok y
     → ((x : X) → result ≡ Ok x → LooksAt P image (next x)) → LooksAt P image (given result >>= next)
 looks_given_ok P image result next y gives looks =
     let found = given_gives image result next y gives in
-    looks_bind_ok P image (given result) next found.0 (run_given image result ∙ found.1) (looks_given P image result) (looks found.0 found.1)
+    looks_bind_ok P image (given result) next found.0 (result_given image result ∙ found.1) (looks_given P image result) (looks found.0 found.1)
 
 some_below_at : (test : ℕ → Bool) (n i : ℕ) → i < n → test i ≡ true → some_below test n ≡ true
 some_below_at test zero i below is = absurd (omega arith)
@@ -81,7 +81,7 @@ byte_ranges_cover place (suc n) i p below is =
         last
 
 -- the list of a file
-pub lists_found : (image : List ℕ) (mft : Mft) (number : ℕ) (option : Option FoundFile) (base : FileRecord) (found : Assembled) (byte : ℕ) → run image (with_assembled mft number base found) ≡ Ok option
+pub lists_found : (image : List ℕ) (mft : Mft) (number : ℕ) (option : Option FoundFile) (base : FileRecord) (found : Assembled) (byte : ℕ) → result_of image (with_assembled mft number base found) ≡ Ok option
     → covers found.lists byte ≡ true → is_list_byte (all_found (option ∷ [])) byte ≡ true
 lists_found image mft number option base found byte gives inside =
     let names = given_gives image (file_names mft found.attributes) _ option gives in
@@ -116,7 +116,7 @@ module _ (image : List ℕ) (mft : Mft) (files : List FoundFile) (strides : mft.
       or_right (in_range (boot_sector mft) byte) (is_list_byte files byte || some_below (is_slot_byte mft files byte) (slots mft))
       (or_right (is_list_byte files byte) (some_below (is_slot_byte mft files byte) (slots mft)) (some_below_at (is_slot_byte mft files byte) (slots mft) number below inside))
 
-  no_content_there : (number q : ℕ) (slot : Slot) → run image (slot_of mft number) ≡ Ok slot → IsFree slot q → is_content_place mft.boot.record_size files number q ≡ false
+  no_content_there : (number q : ℕ) (slot : Slot) → result_of image (slot_of mft number) ≡ Ok slot → IsFree slot q → is_content_place mft.boot.record_size files number q ≡ false
   no_content_there number q slot gives free =
       ⊎_elim
       (λ content.
@@ -128,7 +128,7 @@ module _ (image : List ℕ) (mft : Mft) (files : List FoundFile) (strides : mft.
       (λ none. none)
       (cases_Bool (is_content_place mft.boot.record_size files number q))
 
-  free_guarded : (byte number : ℕ) (slot : Slot) → number < slots mft → run image (slot_of mft number) ≡ Ok slot → IsFreeIn mft number slot byte → Guarded byte
+  free_guarded : (byte number : ℕ) (slot : Slot) → number < slots mft → result_of image (slot_of mft number) ≡ Ok slot → IsFreeIn mft number slot byte → Guarded byte
   free_guarded byte number slot below gives free =
       let here : is_at (slot_place mft number free.0) byte ≡ true = ap (λ place. is_at place byte) free.2 ∙ eq-eqb byte byte refl in
       let none : not (is_content_place mft.boot.record_size files number free.0) ≡ true = not_from_false (is_content_place mft.boot.record_size files number free.0) (no_content_there number free.0 slot gives free.3) in
@@ -138,7 +138,7 @@ module _ (image : List ℕ) (mft : Mft) (files : List FoundFile) (strides : mft.
 
   -- ---- a slot, by whatever is known of its places
 
-  pub slot_looks_guarded : (known : Mft) (number : ℕ) (slot : Slot) → SamePlaces known mft number → number < slots mft → run image (slot_of known number) ≡ Ok slot → LooksAt (LiesIn Guarded) image (slot_of known number)
+  pub slot_looks_guarded : (known : Mft) (number : ℕ) (slot : Slot) → SamePlaces known mft number → number < slots mft → result_of image (slot_of known number) ≡ Ok slot → LooksAt (LiesIn Guarded) image (slot_of known number)
   slot_looks_guarded known number slot same below gives =
       let size : known.boot.record_size ≡ mft.boot.record_size = ap (λ boot. boot.record_size) same.boot in
       looks_weaker (LiesIn (IsFreeIn known number slot)) (LiesIn Guarded) image (slot_of known number)
@@ -150,11 +150,11 @@ module _ (image : List ℕ) (mft : Mft) (files : List FoundFile) (strides : mft.
 
   -- ---- a list
 
-  pub list_looks : (known : Mft) (list : Held) (content : ListContent) → run image (list_content known list) ≡ Ok content → ((byte : ℕ) → covers content.guarded byte ≡ true → Guarded byte)
+  pub list_looks : (known : Mft) (list : Held) (content : ListContent) → result_of image (list_content known list) ≡ Ok content → ((byte : ℕ) → covers content.guarded byte ≡ true → Guarded byte)
       → LooksAt (LiesIn Guarded) image (list_content known list)
   list_looks known list content gives guarded = by_form list.opened.attribute.form gives
     where
-      stream_looks : (stream : Stream) → run image (stream_list known stream) ≡ Ok content → LooksAt (LiesIn Guarded) image (stream_list known stream)
+      stream_looks : (stream : Stream) → result_of image (stream_list known stream) ≡ Ok content → LooksAt (LiesIn Guarded) image (stream_list known stream)
       stream_looks stream gives =
           let place = stream_place known.boot stream in
           let short = check_gives image (nat_le stream.real 1048576) (Limit AttributeList 1048576) _ content gives in
@@ -168,16 +168,16 @@ module _ (image : List ℕ) (mft : Mft) (files : List FoundFile) (strides : mft.
           guarded byte (ap (λ ranges. covers ranges byte) ranges ∙ byte_ranges_cover place stream.real i byte (omega (arith, to)) (is ∙ ap Some same))))
           (λ bytes is. looks_done (LiesIn Guarded) image _))
 
-      by_form : (form : Form) → run image (list_by known list form) ≡ Ok content → LooksAt (LiesIn Guarded) image (list_by known list form)
+      by_form : (form : Form) → result_of image (list_by known list form) ≡ Ok content → LooksAt (LiesIn Guarded) image (list_by known list form)
       by_form (Resident range) gives = looks_done (LiesIn Guarded) image _
       by_form (NonResident header) gives =
           let stream = given_gives image (stream_of known list []) (stream_list known) content gives in
-          looks_bind_ok (LiesIn Guarded) image (given (stream_of known list [])) (stream_list known) stream.0 (run_given image (stream_of known list []) ∙ stream.1)
+          looks_bind_ok (LiesIn Guarded) image (given (stream_of known list [])) (stream_list known) stream.0 (result_given image (stream_of known list []) ∙ stream.1)
           (looks_given (LiesIn Guarded) image (stream_of known list [])) (stream_looks stream.0 stream.2)
 
   -- ---- the attribute that an entry names
 
-  pub named_looks : (known : Mft) (number : ℕ) (base : FileRecord) (entry : Entry) (named : Held) → slots known ≡ slots mft → SamePlaces known mft entry.number → run image (named_attribute known number base entry) ≡ Ok named
+  pub named_looks : (known : Mft) (number : ℕ) (base : FileRecord) (entry : Entry) (named : Held) → slots known ≡ slots mft → SamePlaces known mft entry.number → result_of image (named_attribute known number base entry) ≡ Ok named
       → LooksAt (LiesIn Guarded) image (named_attribute known number base entry)
   unfolding named_attribute
   named_looks known number base entry named count same gives =
@@ -185,7 +185,7 @@ module _ (image : List ℕ) (mft : Mft) (files : List FoundFile) (strides : mft.
       looks_bind_ok (LiesIn Guarded) image (named_record known number base entry) _ attributes.0 attributes.1
       (record_looks (entry.number == number) attributes.0 attributes.1) (looks_given (LiesIn Guarded) image (named_in entry attributes.0))
     where
-      record_looks : (own : Bool) (attributes : List Held) → run image (record_named known number base entry own) ≡ Ok attributes → LooksAt (LiesIn Guarded) image (record_named known number base entry own)
+      record_looks : (own : Bool) (attributes : List Held) → result_of image (record_named known number base entry own) ≡ Ok attributes → LooksAt (LiesIn Guarded) image (record_named known number base entry own)
       record_looks true attributes gives = looks_done (LiesIn Guarded) image _
       record_looks false attributes gives =
           let below = check_gives image (nat_lt entry.number (slots known)) (Damaged AttributeMissing entry.place) _ attributes gives in
@@ -200,7 +200,7 @@ module _ (image : List ℕ) (mft : Mft) (files : List FoundFile) (strides : mft.
   own_same : (number : ℕ) → SamePlaces mft mft number
   own_same number = record { boot = refl; places = λ i below. refl }
 
-  assembled_looks : (number : ℕ) (base : FileRecord) (list : Option Held) (found : Assembled) → run image (assembled_by mft number base list) ≡ Ok found → ((byte : ℕ) → covers found.lists byte ≡ true → Guarded byte)
+  assembled_looks : (number : ℕ) (base : FileRecord) (list : Option Held) (found : Assembled) → result_of image (assembled_by mft number base list) ≡ Ok found → ((byte : ℕ) → covers found.lists byte ≡ true → Guarded byte)
       → LooksAt (LiesIn Guarded) image (assembled_by mft number base list)
   assembled_looks number base None found gives guarded = looks_done (LiesIn Guarded) image _
   assembled_looks number base (Some list) found gives guarded =
@@ -210,13 +210,13 @@ module _ (image : List ℕ) (mft : Mft) (files : List FoundFile) (strides : mft.
       let lists : content.0.guarded ≡ found.lists = cc (attributes.2) in
       looks_bind_ok (LiesIn Guarded) image (list_content mft list) (with_list mft number base list) content.0 content.1
       (list_looks mft list content.0 content.1 (λ byte inside. guarded byte (sym (ap (λ ranges. covers ranges byte) lists) ∙ inside)))
-      (looks_bind_ok (LiesIn Guarded) image (given (entries_of mft list content.0)) (with_entries mft number base content.0) entries.0 (run_given image (entries_of mft list content.0) ∙ entries.1)
+      (looks_bind_ok (LiesIn Guarded) image (given (entries_of mft list content.0)) (with_entries mft number base content.0) entries.0 (result_given image (entries_of mft list content.0) ∙ entries.1)
       (looks_given (LiesIn Guarded) image (entries_of mft list content.0))
       (looks_bind_ok (LiesIn Guarded) image (each (named_attribute mft number base) entries.0) _ attributes.0 attributes.1
       (looks_each_ok (LiesIn Guarded) image (named_attribute mft number base) entries.0 attributes.0 attributes.1 (λ entry named is. named_looks mft number base entry named refl (own_same entry.number) is))
       (looks_done (LiesIn Guarded) image _)))
 
-  file_looks : (number : ℕ) (option : Option FoundFile) → number < slots mft → run image (file_of mft number) ≡ Ok option → ((byte : ℕ) → is_list_byte (all_found (option ∷ [])) byte ≡ true → Guarded byte)
+  file_looks : (number : ℕ) (option : Option FoundFile) → number < slots mft → result_of image (file_of mft number) ≡ Ok option → ((byte : ℕ) → is_list_byte (all_found (option ∷ [])) byte ≡ true → Guarded byte)
       → LooksAt (LiesIn Guarded) image (file_of mft number)
   unfolding file_of
   file_looks number option below gives guarded =
@@ -229,21 +229,21 @@ module _ (image : List ℕ) (mft : Mft) (files : List FoundFile) (strides : mft.
           (λ names is. looks_bind (LiesIn Guarded) image (given (parts_of mft found.attributes)) _ (looks_given (LiesIn Guarded) image (parts_of mft found.attributes))
           (λ parts are. looks_done (LiesIn Guarded) image _))
 
-      by_base : (base : FileRecord) (is_base : Bool) → run image (file_by mft number base is_base) ≡ Ok option → LooksAt (LiesIn Guarded) image (file_by mft number base is_base)
+      by_base : (base : FileRecord) (is_base : Bool) → result_of image (file_by mft number base is_base) ≡ Ok option → LooksAt (LiesIn Guarded) image (file_by mft number base is_base)
       by_base base false gives = looks_done (LiesIn Guarded) image _
       by_base base true gives =
           let found = bind_gives image (assembled mft number base) (with_assembled mft number base) option gives in
           looks_bind_ok (LiesIn Guarded) image (assembled mft number base) (with_assembled mft number base) found.0 found.1
           (assembled_looks number base (list_of (attributes_in number base)) found.0 found.1 (λ byte inside. guarded byte (lists_found image mft number option base found.0 byte found.2 inside))) (with_looks base found.0)
 
-      by_slot : (slot : Slot) → run image (file_in mft number slot) ≡ Ok option → LooksAt (LiesIn Guarded) image (file_in mft number slot)
+      by_slot : (slot : Slot) → result_of image (file_in mft number slot) ≡ Ok option → LooksAt (LiesIn Guarded) image (file_in mft number slot)
       by_slot Empty gives = looks_done (LiesIn Guarded) image _
       by_slot Unused gives = looks_done (LiesIn Guarded) image _
       by_slot (Used base) gives = by_base base (base.header.base == 0) gives
 
   -- ---- all files
 
-  pub files_look : (count from : ℕ) (options : List (Option FoundFile)) → from + count ≤ slots mft → run image (each (file_of mft) (count_from from count)) ≡ Ok options
+  pub files_look : (count from : ℕ) (options : List (Option FoundFile)) → from + count ≤ slots mft → result_of image (each (file_of mft) (count_from from count)) ≡ Ok options
       → ((byte : ℕ) → is_list_byte (all_found options) byte ≡ true → Guarded byte) → LooksAt (LiesIn Guarded) image (each (file_of mft) (count_from from count))
   files_look zero from options within gives guarded = looks_done (LiesIn Guarded) image []
   files_look (suc count) from options within gives guarded =

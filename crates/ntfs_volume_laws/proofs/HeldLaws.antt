@@ -8,8 +8,8 @@ use Rattle.std.specs.List.{All, list_any}
 use Rattle.std.specs.Option.{ok_or}
 use Rattle.range_defs.specs.declared.Range.{Range}
 use Rattle.range_defs.specs.Places.{in_range, covers}
-use Rattle.image_defs.specs.Ask.{Done, run, given, each}
-use Rattle.image_defs.proofs.Runs.{run_given}
+use Rattle.image_defs.specs.Ask.{Done, result_of, given, each}
+use Rattle.image_defs.proofs.Runs.{result_given}
 use Rattle.image_defs.proofs.Looks.{bind_gives, check_gives, given_gives, each_gives}
 use Rattle.ntfs_record_defs.specs.Stored.{stored_place}
 use Rattle.ntfs_record_defs.specs.Attributes.{Opened, content_of, contents}
@@ -30,11 +30,11 @@ use Rattle.ntfs_volume_defs.specs.Volume.{all_found}
 -- an attribute stands in a record that its slot holds, and its content is content of that record
 pub record IsHeldIn (image : List ℕ) (mft : Mft) (held : Held) : Type 0 where
   pub found : FileRecord
-  pub slot_is : run image (slot_of mft held.slot) ≡ Ok (Used found)
+  pub slot_is : result_of image (slot_of mft held.slot) ≡ Ok (Used found)
   pub array_is : held.array ≡ found.header.array
   pub content : (i : ℕ) → covers (content_of held.opened.attribute) i ≡ true → covers (contents found.attributes) i ≡ true
 
-held_in_held : (image : List ℕ) (mft : Mft) (number : ℕ) (found : FileRecord) → run image (slot_of mft number) ≡ Ok (Used found) → (opened : List Opened)
+held_in_held : (image : List ℕ) (mft : Mft) (number : ℕ) (found : FileRecord) → result_of image (slot_of mft number) ≡ Ok (Used found) → (opened : List Opened)
     → ((i : ℕ) → covers (contents opened) i ≡ true → covers (contents found.attributes) i ≡ true) → All (IsHeldIn image mft) (held_in number found.header.array opened)
 held_in_held image mft number found slot_is [] whole = All-nil (IsHeldIn image mft)
 held_in_held image mft number found slot_is (first ∷ more) whole =
@@ -48,7 +48,7 @@ held_in_held image mft number found slot_is (first ∷ more) whole =
     })
     (held_in_held image mft number found slot_is more (λ i inside. whole i (split i ∙ or_right (covers (content_of first.attribute) i) (covers (contents more) i) inside)))
 
-pub attributes_held : (image : List ℕ) (mft : Mft) (number : ℕ) (found : FileRecord) → run image (slot_of mft number) ≡ Ok (Used found) → All (IsHeldIn image mft) (attributes_in number found)
+pub attributes_held : (image : List ℕ) (mft : Mft) (number : ℕ) (found : FileRecord) → result_of image (slot_of mft number) ≡ Ok (Used found) → All (IsHeldIn image mft) (attributes_in number found)
 attributes_held image mft number found slot_is = held_in_held image mft number found slot_is found.attributes (λ i inside. inside)
 
 -- ---- the attribute that an entry names
@@ -74,8 +74,8 @@ extension_is reference place (Used other) found gives = by_test (other.header.ba
     by_test true gives = let same : other ≡ found = cc in ap Used same
     by_test false gives = absurd cc
 
-record_named_held : (image : List ℕ) (mft : Mft) (number : ℕ) (base : FileRecord) (entry : Entry) (own : Bool) (attributes : List Held) → run image (slot_of mft number) ≡ Ok (Used base)
-    → run image (record_named mft number base entry own) ≡ Ok attributes → All (IsHeldIn image mft) attributes
+record_named_held : (image : List ℕ) (mft : Mft) (number : ℕ) (base : FileRecord) (entry : Entry) (own : Bool) (attributes : List Held) → result_of image (slot_of mft number) ≡ Ok (Used base)
+    → result_of image (record_named mft number base entry own) ≡ Ok attributes → All (IsHeldIn image mft) attributes
 record_named_held image mft number base entry true attributes slot_is gives =
     let P : List Held → Type 0 = λ attributes. All (IsHeldIn image mft) attributes in
     let same : attributes_in number base ≡ attributes = cc in
@@ -88,17 +88,17 @@ record_named_held image mft number base entry false attributes slot_is gives =
     let same : attributes_in entry.number found.0 ≡ attributes = cc (found.2) in
     subst P same (attributes_held image mft entry.number found.0 (slot.1 ∙ ap Ok (extension_is (reference_of number base.header) entry.place slot.0 found.0 found.1)))
 
-pub named_attribute_held : (image : List ℕ) (mft : Mft) (number : ℕ) (base : FileRecord) (entry : Entry) (held : Held) → run image (slot_of mft number) ≡ Ok (Used base)
-    → run image (named_attribute mft number base entry) ≡ Ok held → IsHeldIn image mft held
+pub named_attribute_held : (image : List ℕ) (mft : Mft) (number : ℕ) (base : FileRecord) (entry : Entry) (held : Held) → result_of image (slot_of mft number) ≡ Ok (Used base)
+    → result_of image (named_attribute mft number base entry) ≡ Ok held → IsHeldIn image mft held
 unfolding named_attribute
 named_attribute_held image mft number base entry held slot_is gives =
     let record_found = bind_gives image (named_record mft number base entry) (λ attributes. given (named_in entry attributes)) held gives in
-    let found = sym (run_given image (named_in entry record_found.0)) ∙ record_found.2 in
+    let found = sym (result_given image (named_in entry record_found.0)) ∙ record_found.2 in
     find_holds (IsHeldIn image mft) (is_named entry) record_found.0 held (ok_or_gives (find (is_named entry) record_found.0) (Damaged AttributeMissing entry.place) held found)
     (record_named_held image mft number base entry (entry.number == number) record_found.0 slot_is record_found.1)
 
-pub assembled_held : (image : List ℕ) (mft : Mft) (number : ℕ) (base : FileRecord) (list : Option Held) (found : Assembled) → run image (slot_of mft number) ≡ Ok (Used base)
-    → run image (assembled_by mft number base list) ≡ Ok found → All (IsHeldIn image mft) found.attributes
+pub assembled_held : (image : List ℕ) (mft : Mft) (number : ℕ) (base : FileRecord) (list : Option Held) (found : Assembled) → result_of image (slot_of mft number) ≡ Ok (Used base)
+    → result_of image (assembled_by mft number base list) ≡ Ok found → All (IsHeldIn image mft) found.attributes
 assembled_held image mft number base None found slot_is gives =
     let P : Assembled → Type 0 = λ found. All (IsHeldIn image mft) found.attributes in
     let same : record { attributes = attributes_in number base; lists = [] } ≡ found = cc in
@@ -117,7 +117,7 @@ assembled_held image mft number base (Some list) found slot_is gives =
 -- a stored byte of a slot is a place of content that the slot's record holds
 pub record HoldsContent (image : List ℕ) (mft : Mft) (slot byte : ℕ) : Type 0 where
   pub found : FileRecord
-  pub slot_is : run image (slot_of mft slot) ≡ Ok (Used found)
+  pub slot_is : result_of image (slot_of mft slot) ≡ Ok (Used found)
   pub place : IsContentPlace found byte
 
 some_below_gives : (test : ℕ → Bool) (n : ℕ) → some_below test n ≡ true → (i : ℕ) × (i < n) × (test i ≡ true)
@@ -138,7 +138,7 @@ ranges_held image mft size slot byte held is (range ∷ ranges) whole some =
     let same : held.slot ≡ slot = eqb-true held.slot slot both.0 in
     record {
       found = is.found;
-      slot_is = ap (λ slot. run image (slot_of mft slot)) (sym same) ∙ is.slot_is;
+      slot_is = ap (λ slot. result_of image (slot_of mft slot)) (sym same) ∙ is.slot_is;
       place = (at.0, whole at.0 (or_left (in_range range at.0) (covers ranges at.0) here.0), sym (ap (λ array. stored_place array at.0) is.array_is) ∙ eqb-true (stored_place held.array at.0) byte here.1);
     })
     (λ later. ranges_held image mft size slot byte held is ranges (λ i inside. whole i (or_right (in_range range i) (covers ranges i) inside)) later)
@@ -161,14 +161,14 @@ contents_held image mft size slot byte (held ∷ more) all some =
 -- what a file has besides, where there is one
 pub record IsAssembled (image : List ℕ) (mft : Mft) (number : ℕ) (file : FoundFile) : Type 0 where
   pub base : FileRecord
-  pub slot_is : run image (slot_of mft number) ≡ Ok (Used base)
+  pub slot_is : result_of image (slot_of mft number) ≡ Ok (Used base)
   pub found : Assembled
-  pub found_is : run image (assembled mft number base) ≡ Ok found
+  pub found_is : result_of image (assembled mft number base) ≡ Ok found
   pub contents_are : file.contents ≡ contents_in found.attributes
   pub lists_are : file.lists ≡ found.lists
 
-assembled_by_base : (image : List ℕ) (mft : Mft) (number : ℕ) (base : FileRecord) (is_base : Bool) (file : FoundFile) → run image (slot_of mft number) ≡ Ok (Used base)
-    → run image (file_by mft number base is_base) ≡ Ok (Some file) → IsAssembled image mft number file
+assembled_by_base : (image : List ℕ) (mft : Mft) (number : ℕ) (base : FileRecord) (is_base : Bool) (file : FoundFile) → result_of image (slot_of mft number) ≡ Ok (Used base)
+    → result_of image (file_by mft number base is_base) ≡ Ok (Some file) → IsAssembled image mft number file
 assembled_by_base image mft number base false file slot_is gives = absurd cc
 assembled_by_base image mft number base true file slot_is gives =
     let found = bind_gives image (assembled mft number base) (with_assembled mft number base) (Some file) gives in
@@ -183,25 +183,25 @@ assembled_by_base image mft number base true file slot_is gives =
       lists_are = cc (parts.2);
     }
 
-pub file_assembled : (image : List ℕ) (mft : Mft) (number : ℕ) (file : FoundFile) → run image (file_of mft number) ≡ Ok (Some file) → IsAssembled image mft number file
+pub file_assembled : (image : List ℕ) (mft : Mft) (number : ℕ) (file : FoundFile) → result_of image (file_of mft number) ≡ Ok (Some file) → IsAssembled image mft number file
 unfolding file_of
 file_assembled image mft number file gives =
     let slot = bind_gives image (slot_of mft number) (file_in mft number) (Some file) gives in
     by_slot slot.0 slot.1 slot.2
   where
-    by_slot : (slot : Slot) → run image (slot_of mft number) ≡ Ok slot → run image (file_in mft number slot) ≡ Ok (Some file) → IsAssembled image mft number file
+    by_slot : (slot : Slot) → result_of image (slot_of mft number) ≡ Ok slot → result_of image (file_in mft number slot) ≡ Ok (Some file) → IsAssembled image mft number file
     by_slot Empty is gives = absurd cc
     by_slot Unused is gives = absurd cc
     by_slot (Used base) is gives = assembled_by_base image mft number base (base.header.base == 0) file is gives
 
-pub file_held : (image : List ℕ) (mft : Mft) (number size slot byte : ℕ) (file : FoundFile) → run image (file_of mft number) ≡ Ok (Some file)
+pub file_held : (image : List ℕ) (mft : Mft) (number size slot byte : ℕ) (file : FoundFile) → result_of image (file_of mft number) ≡ Ok (Some file)
     → list_any (is_content_byte size slot byte) file.contents ≡ true → HoldsContent image mft slot byte
 file_held image mft number size slot byte file gives some =
     let is = file_assembled image mft number file gives in
     contents_held image mft size slot byte is.found.attributes (assembled_held image mft number is.base (list_of (attributes_in number is.base)) is.found is.slot_is is.found_is)
     (sym (ap (list_any (is_content_byte size slot byte)) is.contents_are) ∙ some)
 
-pub files_held : (image : List ℕ) (mft : Mft) (size slot byte : ℕ) (numbers : List ℕ) (options : List (Option FoundFile)) → run image (each (file_of mft) numbers) ≡ Ok options
+pub files_held : (image : List ℕ) (mft : Mft) (size slot byte : ℕ) (numbers : List ℕ) (options : List (Option FoundFile)) → result_of image (each (file_of mft) numbers) ≡ Ok options
     → is_content_place size (all_found options) slot byte ≡ true → HoldsContent image mft slot byte
 files_held image mft size slot byte [] options gives some = let none : options ≡ [] = cc in absurd (cc (ap (λ options. is_content_place size (all_found options) slot byte) none))
 files_held image mft size slot byte (number ∷ numbers) options gives some =
@@ -210,7 +210,7 @@ files_held image mft size slot byte (number ∷ numbers) options gives some =
     let same : options ≡ first.0 ∷ rest.0 = cc (rest.2) in
     own_or_later first.0 rest.0 first.1 (sym (ap (λ options. is_content_place size (all_found options) slot byte) same) ∙ some) (λ later. files_held image mft size slot byte numbers rest.0 rest.1 later)
   where
-    own_or_later : (first : Option FoundFile) (rest : List (Option FoundFile)) → run image (file_of mft number) ≡ Ok first → is_content_place size (all_found (first ∷ rest)) slot byte ≡ true
+    own_or_later : (first : Option FoundFile) (rest : List (Option FoundFile)) → result_of image (file_of mft number) ≡ Ok first → is_content_place size (all_found (first ∷ rest)) slot byte ≡ true
         → (is_content_place size (all_found rest) slot byte ≡ true → HoldsContent image mft slot byte) → HoldsContent image mft slot byte
     own_or_later None rest is some later = later some
     own_or_later (Some file) rest is some later =

@@ -5,7 +5,7 @@ use Rattle.std.proofs.Math.Nat.{div-lt_iff_lt-mul}
 use Rattle.std.proofs.lemmas.Bool.{ltb-false}
 use Rattle.std.proofs.lemmas.List.{append-nil}
 use Rattle.std.proofs.lemmas.List.Sums.{sum_by-cons}
-use Rattle.image_defs.specs.Ask.{run}
+use Rattle.image_defs.specs.Ask.{result_of}
 use Rattle.image_defs.specs.Runs.{with_value}
 use Rattle.image_defs.proofs.Looks.{bind_gives, given_gives}
 use Rattle.ntfs_defs.specs.declared.runs.Run.{Run}
@@ -147,8 +147,8 @@ segments_boot boot known (held ∷ more) next has gives =
 
 -- one more entry
 pub entry_gives : (image : List ℕ) (boot : Boot) (base : FileRecord) (known : Option Mft) (entry : Entry) (entries : List Entry) (next : Option Mft)
-    → run image (segments_behind boot base known (entry ∷ entries)) ≡ Ok next
-    → (held : Held) × (mft : Mft) × (run image (next_segment boot base known entry) ≡ Ok held) × (with_segment boot known held ≡ Ok mft) × (run image (segments_behind boot base (Some mft) entries) ≡ Ok next)
+    → result_of image (segments_behind boot base known (entry ∷ entries)) ≡ Ok next
+    → (held : Held) × (mft : Mft) × (result_of image (next_segment boot base known entry) ≡ Ok held) × (with_segment boot known held ≡ Ok mft) × (result_of image (segments_behind boot base (Some mft) entries) ≡ Ok next)
 unfolding segments_behind
 entry_gives image boot base known entry entries next gives =
     let held = bind_gives image (next_segment boot base known entry) _ next gives in
@@ -156,7 +156,7 @@ entry_gives image boot base known entry entries next gives =
     (held.0, mft.0, held.1, mft.1, mft.2)
 
 pub behind_boot : (image : List ℕ) (boot : Boot) (base : FileRecord) (known : Option Mft) (entries : List Entry) (next : Option Mft) → HasBoot boot known
-    → run image (segments_behind boot base known entries) ≡ Ok next → HasBoot boot next
+    → result_of image (segments_behind boot base known entries) ≡ Ok next → HasBoot boot next
 unfolding segments_behind
 behind_boot image boot base known [] next has gives =
     let same : known ≡ next = cc in
@@ -166,7 +166,7 @@ behind_boot image boot base known (entry ∷ entries) next has gives =
     let found = entry_gives image boot base known entry entries next gives in
     behind_boot image boot base (Some found.1) entries next (segment_boot boot known found.1 found.0 has found.3) found.4
 
-pub behind_extends : (image : List ℕ) (boot : Boot) (base : FileRecord) (known whole : Mft) (entries : List Entry) → run image (segments_behind boot base (Some known) entries) ≡ Ok (Some whole) → Extends known whole
+pub behind_extends : (image : List ℕ) (boot : Boot) (base : FileRecord) (known whole : Mft) (entries : List Entry) → result_of image (segments_behind boot base (Some known) entries) ≡ Ok (Some whole) → Extends known whole
 unfolding segments_behind
 behind_extends image boot base known whole [] gives =
     let same : known ≡ whole = cc in

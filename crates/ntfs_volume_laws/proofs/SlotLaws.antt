@@ -4,12 +4,12 @@ use Rattle.std.proofs.Common.{arith, ap, sym, ◌∙◌, subst}
 use Rattle.std.proofs.lemmas.List.{ext_get_or}
 use Rattle.range_defs.specs.declared.Range.{Range}
 use Rattle.bytes_defs.specs.Bytes.{part}
-use Rattle.image_defs.specs.Ask.{Ask, Done, run, check, ◌>>◌}
+use Rattle.image_defs.specs.Ask.{Ask, Done, result_of, check, ◌>>◌}
 use Rattle.image_defs.specs.Looks.{LooksAt}
 use Rattle.image_defs.proofs.Looks.{looks_done, looks_weaker, looks_bind, looks_check, looks_look, bind_gives, check_gives}
 use Rattle.image_defs.specs.Via.{via, seen, byte_of, with_faults}
 use Rattle.image_defs.specs.ViaLaws.{LiesIn}
-use Rattle.image_defs.proofs.ViaLaws.{run_via, looks_via, AtPlaces, with_fault, run_with_faults, looks_with_faults, length_seen, seen_at}
+use Rattle.image_defs.proofs.ViaLaws.{result_via, looks_via, AtPlaces, with_fault, result_with_faults, looks_with_faults, length_seen, seen_at}
 use Rattle.ntfs_record_defs.specs.Record.{Header, header_of, is_file, record_behind}
 use Rattle.ntfs_record_defs.specs.RecordLaws.{NoContentPlace}
 use Rattle.ntfs_record_defs.proofs.RecordLaws.{front_clear, behind_found, behind_looks}
@@ -21,15 +21,15 @@ IsFree Empty byte = Unit {0}
 IsFree Unused byte = Unit {0}
 IsFree (Used found) byte = NoContentPlace found byte
 
-pub gives_with_faults : {E F X : Type 0} (image : List ℕ) (fault : E → F) (ask : Ask E X) (x : X) → run image (with_faults fault ask) ≡ Ok x → run image ask ≡ Ok x
-gives_with_faults {E} {F} {X} image fault ask x gives = same (run image ask) (sym (run_with_faults image fault ask) ∙ gives)
+pub gives_with_faults : {E F X : Type 0} (image : List ℕ) (fault : E → F) (ask : Ask E X) (x : X) → result_of image (with_faults fault ask) ≡ Ok x → result_of image ask ≡ Ok x
+gives_with_faults {E} {F} {X} image fault ask x gives = same (result_of image ask) (sym (result_with_faults image fault ask) ∙ gives)
   where
     same : (result : Result X E) → with_fault fault result ≡ Ok x → result ≡ Ok x
     same (Ok y) is = ap Ok cc
     same (Err e) is = absurd cc
 
 -- what stands behind the first bytes
-in_use_looks : (stored : List ℕ) (size : ℕ) (header : Header) (slot : Slot) (in_use : Bool) → size % 512 ≡ 0 → run stored (record_in_use size header in_use) ≡ Ok slot
+in_use_looks : (stored : List ℕ) (size : ℕ) (header : Header) (slot : Slot) (in_use : Bool) → size % 512 ≡ 0 → result_of stored (record_in_use size header in_use) ≡ Ok slot
     → LooksAt (LiesIn (IsFree slot)) stored (record_in_use size header in_use) × ((byte : ℕ) → byte < 42 → IsFree slot byte)
 in_use_looks stored size header slot false whole gives =
     let P : Slot → Type 0 = λ slot. LooksAt (LiesIn (IsFree slot)) stored (record_in_use size header false) × ((byte : ℕ) → byte < 42 → IsFree slot byte) in
@@ -50,7 +50,7 @@ in_use_looks stored size header slot true whole gives =
       front,
     )
 
-behind_first_looks : (stored : List ℕ) (whole : Bool) (size : ℕ) (bytes : List ℕ) (slot : Slot) (empty : Bool) → size % 512 ≡ 0 → run stored (slot_behind whole size bytes empty) ≡ Ok slot
+behind_first_looks : (stored : List ℕ) (whole : Bool) (size : ℕ) (bytes : List ℕ) (slot : Slot) (empty : Bool) → size % 512 ≡ 0 → result_of stored (slot_behind whole size bytes empty) ≡ Ok slot
     → LooksAt (LiesIn (IsFree slot)) stored (slot_behind whole size bytes empty) × ((byte : ℕ) → byte < 42 → IsFree slot byte)
 behind_first_looks stored whole size bytes slot true strides gives =
     let P : Slot → Type 0 = λ slot. LooksAt (LiesIn (IsFree slot)) stored (slot_behind whole size bytes true) × ((byte : ℕ) → byte < 42 → IsFree slot byte) in
@@ -67,7 +67,7 @@ behind_first_looks stored whole size bytes slot false strides gives =
       looks.1,
     )
 
-pub stored_slot_looks : (stored : List ℕ) (whole : Bool) (size : ℕ) (slot : Slot) → size % 512 ≡ 0 → run stored (stored_slot whole size) ≡ Ok slot
+pub stored_slot_looks : (stored : List ℕ) (whole : Bool) (size : ℕ) (slot : Slot) → size % 512 ≡ 0 → result_of stored (stored_slot whole size) ≡ Ok slot
     → LooksAt (LiesIn (IsFree slot)) stored (stored_slot whole size)
 unfolding stored_slot
 stored_slot_looks stored whole size slot strides gives =
@@ -89,21 +89,21 @@ free_places mft number slot range lies i p low high inside is byte from to =
 abbrev pub stored_program : Mft → ℕ → Ask SlotFault Slot
 stored_program mft number = stored_slot (is_whole mft number) mft.boot.record_size
 
-pub slot_gives : (image : List ℕ) (mft : Mft) (number : ℕ) (slot : Slot) → run image (slot_of mft number) ≡ Ok slot
-    → run (seen image (slot_place mft number) mft.boot.record_size) (stored_program mft number) ≡ Ok slot
+pub slot_gives : (image : List ℕ) (mft : Mft) (number : ℕ) (slot : Slot) → result_of image (slot_of mft number) ≡ Ok slot
+    → result_of (seen image (slot_place mft number) mft.boot.record_size) (stored_program mft number) ≡ Ok slot
 unfolding slot_of
 slot_gives image mft number slot gives =
-    sym (run_via image (slot_place mft number) mft.boot.record_size (stored_program mft number))
+    sym (result_via image (slot_place mft number) mft.boot.record_size (stored_program mft number))
     ∙ gives_with_faults image (slot_refusal mft number) (via (slot_place mft number) mft.boot.record_size (stored_program mft number)) slot gives
 
-pub gives_slot : (image : List ℕ) (mft : Mft) (number : ℕ) (slot : Slot) → run (seen image (slot_place mft number) mft.boot.record_size) (stored_program mft number) ≡ Ok slot
-    → run image (slot_of mft number) ≡ Ok slot
+pub gives_slot : (image : List ℕ) (mft : Mft) (number : ℕ) (slot : Slot) → result_of (seen image (slot_place mft number) mft.boot.record_size) (stored_program mft number) ≡ Ok slot
+    → result_of image (slot_of mft number) ≡ Ok slot
 unfolding slot_of
 gives_slot image mft number slot gives =
-    run_with_faults image (slot_refusal mft number) (via (slot_place mft number) mft.boot.record_size (stored_program mft number))
-    ∙ ap (with_fault (slot_refusal mft number)) (run_via image (slot_place mft number) mft.boot.record_size (stored_program mft number) ∙ gives)
+    result_with_faults image (slot_refusal mft number) (via (slot_place mft number) mft.boot.record_size (stored_program mft number))
+    ∙ ap (with_fault (slot_refusal mft number)) (result_via image (slot_place mft number) mft.boot.record_size (stored_program mft number) ∙ gives)
 
-pub slot_looks : (image : List ℕ) (mft : Mft) (number : ℕ) (slot : Slot) → mft.boot.record_size % 512 ≡ 0 → run image (slot_of mft number) ≡ Ok slot
+pub slot_looks : (image : List ℕ) (mft : Mft) (number : ℕ) (slot : Slot) → mft.boot.record_size % 512 ≡ 0 → result_of image (slot_of mft number) ≡ Ok slot
     → LooksAt (LiesIn (IsFreeIn mft number slot)) image (slot_of mft number)
 unfolding slot_of
 slot_looks image mft number slot strides gives =
@@ -140,10 +140,10 @@ whole_same mft other number same =
     ap (λ boot. each_below (λ i. is_some (slot_place mft number i)) boot.record_size) same.boot
     ∙ each_same (λ i. is_some (slot_place mft number i)) (λ i. is_some (slot_place other number i)) other.boot.record_size (λ i below. ap is_some (same.places i below))
 
-pub slot_same : (image : List ℕ) (mft other : Mft) (number : ℕ) (slot : Slot) → SamePlaces mft other number → run image (slot_of mft number) ≡ Ok slot → run image (slot_of other number) ≡ Ok slot
+pub slot_same : (image : List ℕ) (mft other : Mft) (number : ℕ) (slot : Slot) → SamePlaces mft other number → result_of image (slot_of mft number) ≡ Ok slot → result_of image (slot_of other number) ≡ Ok slot
 slot_same image mft other number slot same gives =
     gives_slot image other number slot
-    (sym (ap (λ whole. run (seen image (slot_place other number) other.boot.record_size) (stored_slot whole other.boot.record_size)) (whole_same mft other number same))
-    ∙ sym (ap (λ stored. run stored (stored_slot (is_whole mft number) other.boot.record_size)) (seen_same image (slot_place mft number) (slot_place other number) other.boot.record_size same.places))
-    ∙ sym (ap (λ boot. run (seen image (slot_place mft number) boot.record_size) (stored_slot (is_whole mft number) boot.record_size)) same.boot)
+    (sym (ap (λ whole. result_of (seen image (slot_place other number) other.boot.record_size) (stored_slot whole other.boot.record_size)) (whole_same mft other number same))
+    ∙ sym (ap (λ stored. result_of stored (stored_slot (is_whole mft number) other.boot.record_size)) (seen_same image (slot_place mft number) (slot_place other number) other.boot.record_size same.places))
+    ∙ sym (ap (λ boot. result_of (seen image (slot_place mft number) boot.record_size) (stored_slot (is_whole mft number) boot.record_size)) same.boot)
     ∙ slot_gives image mft number slot gives)

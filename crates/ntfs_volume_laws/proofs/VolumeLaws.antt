@@ -8,11 +8,11 @@ use Rattle.std.specs.List.{filter, list_any}
 use Rattle.range_defs.specs.declared.Range.{Range}
 use Rattle.range_defs.specs.Places.{in_range, covers}
 use Rattle.bytes_defs.specs.Bytes.{part}
-use Rattle.image_defs.specs.Ask.{Done, run, given, each}
+use Rattle.image_defs.specs.Ask.{Done, result_of, given, each}
 use Rattle.image_defs.specs.Agreement.{AgreeOn}
-use Rattle.image_defs.proofs.Agreement.{run_agree}
+use Rattle.image_defs.proofs.Agreement.{result_agree}
 use Rattle.range_defs.proofs.RangeLaws.{longest_ranges_covers}
-use Rattle.image_defs.proofs.Runs.{run_given}
+use Rattle.image_defs.proofs.Runs.{result_given}
 use Rattle.image_defs.specs.Looks.{LooksAt}
 use Rattle.image_defs.proofs.Looks.{looks_done, looks_bind_ok, looks_check, looks_look, looks_given, bind_gives, check_gives, given_gives}
 use Rattle.image_defs.specs.Via.{look_bytes}
@@ -53,7 +53,7 @@ base_is boot (Used found) base gives = by_test (found.header.base == 0) refl giv
     by_test true is gives = let same : found ≡ base = cc in (ap Used same, ap (λ found. found.header.base == 0) (sym same) ∙ is)
     by_test false is gives = absurd cc
 
-known_is : (image : List ℕ) (boot : Boot) (known : Option Mft) (mft : Mft) → run image (known_mft boot known) ≡ Ok mft → known ≡ Some mft
+known_is : (image : List ℕ) (boot : Boot) (known : Option Mft) (mft : Mft) → result_of image (known_mft boot known) ≡ Ok mft → known ≡ Some mft
 known_is image boot None mft gives = absurd cc
 known_is image boot (Some found) mft gives =
     let few = check_gives image (nat_le (slots found) 4000000) (Limit Slots 4000000) (λ x. Done found) mft gives in
@@ -63,12 +63,12 @@ known_is image boot (Some found) mft gives =
 -- the parts of an $MFT that is found
 pub record IsMft (image : List ℕ) (boot : Boot) (mft : Mft) : Type 0 where
   pub slot : Slot
-  pub slot_is : run image (slot_of (first_slot_alone boot) 0) ≡ Ok slot
+  pub slot_is : result_of image (slot_of (first_slot_alone boot) 0) ≡ Ok slot
   pub base : FileRecord
   pub first : first_base boot slot ≡ Ok base
-  pub segments : run image (all_segments boot base (list_of (attributes_in 0 base))) ≡ Ok (Some mft)
+  pub segments : result_of image (all_segments boot base (list_of (attributes_in 0 base))) ≡ Ok (Some mft)
 
-mft_found : (image : List ℕ) (boot : Boot) (mft : Mft) → run image (mft_of boot) ≡ Ok mft → IsMft image boot mft
+mft_found : (image : List ℕ) (boot : Boot) (mft : Mft) → result_of image (mft_of boot) ≡ Ok mft → IsMft image boot mft
 unfolding mft_of
 mft_found image boot mft gives =
     let inside = check_gives image (nat_le (first_slot_at boot + boot.record_size) (boot.at + boot.len)) (no_map boot) _ mft gives in
@@ -83,28 +83,28 @@ mft_found image boot mft gives =
       segments = known.1 ∙ ap Ok (known_is image boot known.0 mft known.2);
     }
 
-segments_have_boot : (image : List ℕ) (boot : Boot) (base : FileRecord) (list : Option Held) (mft : Mft) → run image (all_segments boot base list) ≡ Ok (Some mft) → mft.boot ≡ boot
+segments_have_boot : (image : List ℕ) (boot : Boot) (base : FileRecord) (list : Option Held) (mft : Mft) → result_of image (all_segments boot base list) ≡ Ok (Some mft) → mft.boot ≡ boot
 segments_have_boot image boot base None mft gives =
-    segments_boot boot None (segments_of 0x80 [] (attributes_in 0 base)) (Some mft) tt (sym (run_given image (with_segments boot None (segments_of 0x80 [] (attributes_in 0 base)))) ∙ gives)
+    segments_boot boot None (segments_of 0x80 [] (attributes_in 0 base)) (Some mft) tt (sym (result_given image (with_segments boot None (segments_of 0x80 [] (attributes_in 0 base)))) ∙ gives)
 segments_have_boot image boot base (Some list) mft gives =
     let content = bind_gives image (list_content (first_slot_alone boot) list) (mft_entries boot base list) (Some mft) gives in
     let entries = given_gives image (entries_of (first_slot_alone boot) list content.0) (λ entries. segments_behind boot base None (filter is_for_content entries)) (Some mft) content.2 in
     behind_boot image boot base None (filter is_for_content entries.0) (Some mft) tt entries.2
 
-pub mft_boot : (image : List ℕ) (boot : Boot) (mft : Mft) → run image (mft_of boot) ≡ Ok mft → mft.boot ≡ boot
+pub mft_boot : (image : List ℕ) (boot : Boot) (mft : Mft) → result_of image (mft_of boot) ≡ Ok mft → mft.boot ≡ boot
 mft_boot image boot mft gives = let is = mft_found image boot mft gives in segments_have_boot image boot is.base (list_of (attributes_in 0 is.base)) mft is.segments
 
 -- ---- the list of $MFT is that of file 0
 
-same_guarded : (image : List ℕ) (a b : Mft) (list : Held) (first second : ListContent) → a.boot ≡ b.boot → run image (list_content a list) ≡ Ok first → run image (list_content b list) ≡ Ok second → first.guarded ≡ second.guarded
+same_guarded : (image : List ℕ) (a b : Mft) (list : Held) (first second : ListContent) → a.boot ≡ b.boot → result_of image (list_content a list) ≡ Ok first → result_of image (list_content b list) ≡ Ok second → first.guarded ≡ second.guarded
 same_guarded image a b list first second boot gives also = by_form list.opened.attribute.form gives also
   where
-    guarded_by : (mft : Mft) (stream : Stream) (content : ListContent) → run image (stream_list mft stream) ≡ Ok content → content.guarded ≡ byte_ranges (stream_place mft.boot stream) stream.real
+    guarded_by : (mft : Mft) (stream : Stream) (content : ListContent) → result_of image (stream_list mft stream) ≡ Ok content → content.guarded ≡ byte_ranges (stream_place mft.boot stream) stream.real
     guarded_by mft stream content gives =
         let short = check_gives image (nat_le stream.real 1048576) (Limit AttributeList 1048576) _ content gives in
         let bytes = bind_gives image (look_bytes (stream_place mft.boot stream) 0 stream.real) (λ bytes. Done (list_with mft stream bytes)) content short.1 in
         cc (bytes.2)
-    by_form : (form : Form) → run image (list_by a list form) ≡ Ok first → run image (list_by b list form) ≡ Ok second → first.guarded ≡ second.guarded
+    by_form : (form : Form) → result_of image (list_by a list form) ≡ Ok first → result_of image (list_by b list form) ≡ Ok second → first.guarded ≡ second.guarded
     by_form (Resident range) gives also = cc
     by_form (NonResident header) gives also =
         let one = given_gives image (stream_of a list []) (stream_list a) first gives in
@@ -116,45 +116,45 @@ same_guarded image a b list first second boot gives also = by_form list.opened.a
         ∙ sym (guarded_by b two.0 second two.2)
 
 -- the list that a file was assembled by
-assembled_list : (image : List ℕ) (mft : Mft) (number : ℕ) (base : FileRecord) (list : Held) (found : Assembled) → run image (assembled_by mft number base (Some list)) ≡ Ok found
-    → (content : ListContent) × (run image (list_content mft list) ≡ Ok content) × (content.guarded ≡ found.lists)
+assembled_list : (image : List ℕ) (mft : Mft) (number : ℕ) (base : FileRecord) (list : Held) (found : Assembled) → result_of image (assembled_by mft number base (Some list)) ≡ Ok found
+    → (content : ListContent) × (result_of image (list_content mft list) ≡ Ok content) × (content.guarded ≡ found.lists)
 assembled_list image mft number base list found gives =
     let own = bind_gives image (list_content mft list) (with_list mft number base list) found gives in
     let entries = given_gives image (entries_of mft list own.0) (with_entries mft number base own.0) found own.2 in
     let attributes = bind_gives image (each (named_attribute mft number base) entries.0) (λ attributes. Done (record { attributes = attributes; lists = own.0.guarded })) found entries.2 in
     (own.0, own.1, lists_are own.0 attributes.0 attributes.2)
   where
-    lists_are : (own : ListContent) (attributes : List Held) → run {E = Refusal} image (Done (record { attributes = attributes; lists = own.guarded })) ≡ Ok found → own.guarded ≡ found.lists
+    lists_are : (own : ListContent) (attributes : List Held) → result_of {E = Refusal} image (Done (record { attributes = attributes; lists = own.guarded })) ≡ Ok found → own.guarded ≡ found.lists
     lists_are own attributes is = cc
 
 -- the file of a base record in slot 0
-file_of_base : (image : List ℕ) (mft : Mft) (base : FileRecord) (option : Option FoundFile) → run image (slot_of mft 0) ≡ Ok (Used base) → (base.header.base == 0) ≡ true → run image (file_of mft 0) ≡ Ok option
-    → (found : Assembled) × (run image (assembled mft 0 base) ≡ Ok found) × (run image (with_assembled mft 0 base found) ≡ Ok option)
+file_of_base : (image : List ℕ) (mft : Mft) (base : FileRecord) (option : Option FoundFile) → result_of image (slot_of mft 0) ≡ Ok (Used base) → (base.header.base == 0) ≡ true → result_of image (file_of mft 0) ≡ Ok option
+    → (found : Assembled) × (result_of image (assembled mft 0 base) ≡ Ok found) × (result_of image (with_assembled mft 0 base found) ≡ Ok option)
 unfolding file_of
 file_of_base image mft base option slot_is is_base gives =
     let slot = bind_gives image (slot_of mft 0) (file_in mft 0) option gives in
     by_slot slot.0 slot.1 slot.2
   where
-    by_flag : (is : Bool) → is ≡ true → run image (file_by mft 0 base is) ≡ Ok option → (found : Assembled) × (run image (assembled mft 0 base) ≡ Ok found) × (run image (with_assembled mft 0 base found) ≡ Ok option)
+    by_flag : (is : Bool) → is ≡ true → result_of image (file_by mft 0 base is) ≡ Ok option → (found : Assembled) × (result_of image (assembled mft 0 base) ≡ Ok found) × (result_of image (with_assembled mft 0 base found) ≡ Ok option)
     by_flag true is gives = bind_gives image (assembled mft 0 base) (with_assembled mft 0 base) option gives
     by_flag false is gives = absurd cc
-    by_slot : (slot : Slot) → run image (slot_of mft 0) ≡ Ok slot → run image (file_in mft 0 slot) ≡ Ok option → (found : Assembled) × (run image (assembled mft 0 base) ≡ Ok found) × (run image (with_assembled mft 0 base found) ≡ Ok option)
+    by_slot : (slot : Slot) → result_of image (slot_of mft 0) ≡ Ok slot → result_of image (file_in mft 0 slot) ≡ Ok option → (found : Assembled) × (result_of image (assembled mft 0 base) ≡ Ok found) × (result_of image (with_assembled mft 0 base found) ≡ Ok option)
     by_slot slot is gives =
         let same : slot ≡ Used base = cc in
-        by_flag (base.header.base == 0) is_base (ap (λ slot. run image (file_in mft 0 slot)) (sym same) ∙ gives)
+        by_flag (base.header.base == 0) is_base (ap (λ slot. result_of image (file_in mft 0 slot)) (sym same) ∙ gives)
 
 first_file : (image : List ℕ) (mft : Mft) (base : FileRecord) (list : Held) (content : ListContent) (option : Option FoundFile) (byte : ℕ)
-    → run image (slot_of mft 0) ≡ Ok (Used base) → (base.header.base == 0) ≡ true → list_of (attributes_in 0 base) ≡ Some list
-    → run image (list_content (first_slot_alone mft.boot) list) ≡ Ok content → covers content.guarded byte ≡ true → run image (file_of mft 0) ≡ Ok option
+    → result_of image (slot_of mft 0) ≡ Ok (Used base) → (base.header.base == 0) ≡ true → list_of (attributes_in 0 base) ≡ Some list
+    → result_of image (list_content (first_slot_alone mft.boot) list) ≡ Ok content → covers content.guarded byte ≡ true → result_of image (file_of mft 0) ≡ Ok option
     → is_list_byte (all_found (option ∷ [])) byte ≡ true
 first_file image mft base list content option byte slot_is is_base list_is content_is inside gives =
     let found = file_of_base image mft base option slot_is is_base gives in
-    let own = assembled_list image mft 0 base list found.0 (ap (λ list. run image (assembled_by mft 0 base list)) (sym list_is) ∙ found.1) in
+    let own = assembled_list image mft 0 base list found.0 (ap (λ list. result_of image (assembled_by mft 0 base list)) (sym list_is) ∙ found.1) in
     let same : content.guarded ≡ found.0.lists = same_guarded image (first_slot_alone mft.boot) mft list content own.0 refl content_is own.1 ∙ own.2 in
     lists_found image mft 0 option base found.0 byte found.2 (ap (λ ranges. covers ranges byte) (sym same) ∙ inside)
 
-first_of_files : (image : List ℕ) (mft : Mft) (count : ℕ) (options : List (Option FoundFile)) → 0 < count → run image (each (file_of mft) (count_from 0 count)) ≡ Ok options
-    → (option : Option FoundFile) × (run image (file_of mft 0) ≡ Ok option) × ((byte : ℕ) → is_list_byte (all_found (option ∷ [])) byte ≡ true → is_list_byte (all_found options) byte ≡ true)
+first_of_files : (image : List ℕ) (mft : Mft) (count : ℕ) (options : List (Option FoundFile)) → 0 < count → result_of image (each (file_of mft) (count_from 0 count)) ≡ Ok options
+    → (option : Option FoundFile) × (result_of image (file_of mft 0) ≡ Ok option) × ((byte : ℕ) → is_list_byte (all_found (option ∷ [])) byte ≡ true → is_list_byte (all_found options) byte ≡ true)
 first_of_files image mft zero options some gives = absurd (omega arith)
 first_of_files image mft (suc count) options some gives =
     let first = bind_gives image (file_of mft 0) _ options gives in
@@ -172,7 +172,7 @@ module _ (image : List ℕ) (mft : Mft) (files : List FoundFile) (strides : mft.
   abbrev Inside : Range → Type 0
   Inside = LiesIn (Guarded image mft files strides held)
   segment_looks : (base : FileRecord) (known : Option Mft) (entry : Entry) (own : Bool) (segment : Held) → HasBoot mft.boot known → ((before : Mft) → known ≡ Some before → Extends before mft)
-      → run image (segment_in mft.boot base known entry own) ≡ Ok segment → LooksAt Inside image (segment_in mft.boot base known entry own)
+      → result_of image (segment_in mft.boot base known entry own) ≡ Ok segment → LooksAt Inside image (segment_in mft.boot base known entry own)
   segment_looks base known entry true segment has extends gives = looks_given Inside image (named_in entry (attributes_in 0 base))
   segment_looks base None entry false segment has extends gives = absurd cc
   segment_looks base (Some before) entry false segment has extends gives =
@@ -182,7 +182,7 @@ module _ (image : List ℕ) (mft : Mft) (files : List FoundFile) (strides : mft.
       subst (λ (boot : Boot). (entry.number + 1) * boot.record_size ≤ mapped boot before.content.runs) (sym has) (leb-true _ _ fits.0) in
       looks_check Inside image (nat_le ((entry.number + 1) * mft.boot.record_size) (mapped mft.boot before.content.runs)) (no_map mft.boot) _
       (λ _. named_looks image mft files strides held before 0 base entry segment (same_slots before mft grows) (mapped_same before mft entry.number grows maps) fits.1)
-  segments_look : (base : FileRecord) (known : Option Mft) (entries : List Entry) → HasBoot mft.boot known → run image (segments_behind mft.boot base known entries) ≡ Ok (Some mft)
+  segments_look : (base : FileRecord) (known : Option Mft) (entries : List Entry) → HasBoot mft.boot known → result_of image (segments_behind mft.boot base known entries) ≡ Ok (Some mft)
       → LooksAt Inside image (segments_behind mft.boot base known entries)
   unfolding segments_behind
   segments_look base known [] has gives = looks_done Inside image known
@@ -190,12 +190,12 @@ module _ (image : List ℕ) (mft : Mft) (files : List FoundFile) (strides : mft.
       let found = entry_gives image mft.boot base known entry entries (Some mft) gives in
       looks_bind_ok Inside image (next_segment mft.boot base known entry) _ found.0 found.2
       (segment_looks base known entry (entry.number == 0) found.0 has
-      (λ before is. behind_extends image mft.boot base before mft (entry ∷ entries) (ap (λ known. run image (segments_behind mft.boot base known (entry ∷ entries))) (sym is) ∙ gives)) found.2)
-      (looks_bind_ok Inside image (given (with_segment mft.boot known found.0)) _ found.1 (run_given image (with_segment mft.boot known found.0) ∙ found.3)
+      (λ before is. behind_extends image mft.boot base before mft (entry ∷ entries) (ap (λ known. result_of image (segments_behind mft.boot base known (entry ∷ entries))) (sym is) ∙ gives)) found.2)
+      (looks_bind_ok Inside image (given (with_segment mft.boot known found.0)) _ found.1 (result_given image (with_segment mft.boot known found.0) ∙ found.3)
       (looks_given Inside image (with_segment mft.boot known found.0))
       (segments_look base (Some found.1) entries (segment_boot mft.boot known found.1 found.0 has found.3) found.4))
-  all_segments_look : (base : FileRecord) (list : Option Held) → run image (all_segments mft.boot base list) ≡ Ok (Some mft)
-      → ((one : Held) (content : ListContent) (byte : ℕ) → list ≡ Some one → run image (list_content (first_slot_alone mft.boot) one) ≡ Ok content → covers content.guarded byte ≡ true → Guarded image mft files strides held byte)
+  all_segments_look : (base : FileRecord) (list : Option Held) → result_of image (all_segments mft.boot base list) ≡ Ok (Some mft)
+      → ((one : Held) (content : ListContent) (byte : ℕ) → list ≡ Some one → result_of image (list_content (first_slot_alone mft.boot) one) ≡ Ok content → covers content.guarded byte ≡ true → Guarded image mft files strides held byte)
       → LooksAt Inside image (all_segments mft.boot base list)
   all_segments_look base None gives guarded = looks_given Inside image (with_segments mft.boot None (segments_of 0x80 [] (attributes_in 0 base)))
   all_segments_look base (Some list) gives guarded =
@@ -206,21 +206,21 @@ module _ (image : List ℕ) (mft : Mft) (files : List FoundFile) (strides : mft.
       (λ entries is. segments_look base None (filter is_for_content entries) tt
       (let found = given_gives image (entries_of (first_slot_alone mft.boot) list content.0) _ (Some mft) content.2 in
       let same : found.0 ≡ entries = cc (found.1) in
-      ap (λ entries. run image (segments_behind mft.boot base None (filter is_for_content entries))) (sym same) ∙ found.2)))
-  mft_looks : run image (mft_of mft.boot) ≡ Ok mft
-      → ((base : FileRecord) (list : Held) (content : ListContent) (byte : ℕ) → run image (slot_of mft 0) ≡ Ok (Used base) → (base.header.base == 0) ≡ true → list_of (attributes_in 0 base) ≡ Some list
-      → run image (list_content (first_slot_alone mft.boot) list) ≡ Ok content → covers content.guarded byte ≡ true → Guarded image mft files strides held byte)
+      ap (λ entries. result_of image (segments_behind mft.boot base None (filter is_for_content entries))) (sym same) ∙ found.2)))
+  mft_looks : result_of image (mft_of mft.boot) ≡ Ok mft
+      → ((base : FileRecord) (list : Held) (content : ListContent) (byte : ℕ) → result_of image (slot_of mft 0) ≡ Ok (Used base) → (base.header.base == 0) ≡ true → list_of (attributes_in 0 base) ≡ Some list
+      → result_of image (list_content (first_slot_alone mft.boot) list) ≡ Ok content → covers content.guarded byte ≡ true → Guarded image mft files strides held byte)
       → LooksAt Inside image (mft_of mft.boot)
   unfolding mft_of
   mft_looks gives guarded =
       let alone = first_slot_alone mft.boot in
       let is = mft_found image mft.boot mft gives in
       let base = base_is mft.boot is.slot is.base is.first in
-      let slot_is : run image (slot_of mft 0) ≡ Ok (Used is.base) = slot_same image alone mft 0 (Used is.base) (alone_same mft) (is.slot_is ∙ ap Ok base.0) in
+      let slot_is : result_of image (slot_of mft 0) ≡ Ok (Used is.base) = slot_same image alone mft 0 (Used is.base) (alone_same mft) (is.slot_is ∙ ap Ok base.0) in
       looks_check Inside image (nat_le (first_slot_at mft.boot + mft.boot.record_size) (mft.boot.at + mft.boot.len)) (no_map mft.boot) _
       (λ _. looks_bind_ok Inside image (slot_of alone 0) (mft_behind mft.boot) is.slot is.slot_is
       (slot_looks_guarded image mft files strides held alone 0 is.slot (alone_same mft) (some_slots mft) is.slot_is)
-      (looks_bind_ok Inside image (given (first_base mft.boot is.slot)) (mft_with mft.boot) is.base (run_given image (first_base mft.boot is.slot) ∙ is.first)
+      (looks_bind_ok Inside image (given (first_base mft.boot is.slot)) (mft_with mft.boot) is.base (result_given image (first_base mft.boot is.slot) ∙ is.first)
       (looks_given Inside image (first_base mft.boot is.slot))
       (looks_bind_ok Inside image (all_segments mft.boot is.base (list_of (attributes_in 0 is.base))) (known_mft mft.boot) (Some mft) is.segments
       (all_segments_look is.base (list_of (attributes_in 0 is.base)) is.segments (λ list content byte list_is content_is inside. guarded is.base list content byte slot_is base.1 list_is content_is inside))
@@ -239,7 +239,7 @@ pub record IsBootOf (at : ℕ) (boot : Boot) : Type 0 where
   pub at_is : boot.at ≡ at
   pub strides : boot.record_size % 512 ≡ 0
 
-boot_found : (image : List ℕ) (at len : ℕ) (boot : Boot) → run image (boot_at at len) ≡ Ok boot → IsBootOf at boot
+boot_found : (image : List ℕ) (at len : ℕ) (boot : Boot) → result_of image (boot_at at len) ≡ Ok boot → IsBootOf at boot
 unfolding boot_at boot_of
 boot_found image at len boot gives =
     let bytes = part image at 512 in
@@ -270,7 +270,7 @@ boot_looks P image at len sector =
 
 -- ---- the volume
 
-limits_keep : (image : List ℕ) (volume found : FoundVolume) → run image (within_limits volume) ≡ Ok found → volume ≡ found
+limits_keep : (image : List ℕ) (volume found : FoundVolume) → result_of image (within_limits volume) ≡ Ok found → volume ≡ found
 unfolding within_limits
 limits_keep image volume found gives =
     let pieces = check_gives image (nat_le (piece_count volume.files) 4000000) (Limit Runs 4000000) _ found gives in
@@ -292,7 +292,7 @@ limits_look P image volume =
 abbrev pub IsGuarded : FoundVolume → ℕ → Type 0
 IsGuarded volume byte = is_guarded volume.mft volume.files byte ≡ true
 
-pub volume_looks : (image : List ℕ) (at len : ℕ) (volume : FoundVolume) → run image (volume_at at len) ≡ Ok volume → LooksAt (LiesIn (IsGuarded volume)) image (volume_at at len)
+pub volume_looks : (image : List ℕ) (at len : ℕ) (volume : FoundVolume) → result_of image (volume_at at len) ≡ Ok volume → LooksAt (LiesIn (IsGuarded volume)) image (volume_at at len)
 unfolding volume_at files_of
 volume_looks image at len volume gives =
     let boot = bind_gives image (boot_at at len) volume_behind volume gives in
@@ -312,7 +312,7 @@ volume_looks image at len volume gives =
     let sector : P (record { at = at; len = 512 }) =
     λ byte low high. boot_guarded image mft.0 files strides held byte (in_sector mft.0 byte (omega (arith, low, own.at_is, ap (λ boot. boot.at) boot_is)) (omega (arith, high, own.at_is, ap (λ boot. boot.at) boot_is))) in
     let map =
-    mft_looks image mft.0 files strides held (ap (λ boot. run image (mft_of boot)) boot_is ∙ mft.1)
+    mft_looks image mft.0 files strides held (ap (λ boot. result_of image (mft_of boot)) boot_is ∙ mft.1)
     (λ base list content byte slot_is is_base list_is content_is inside. list_guarded image mft.0 files strides held byte
     (first.2 byte (first_file image mft.0 base list content first.0 byte slot_is is_base list_is content_is inside first.1))) in
     subst Q same
@@ -335,6 +335,6 @@ same_in_guard a b volume agree byte guarded =
 
 pub footprint_law : FootprintLaw
 footprint_law a b at len volume gives agree = (
-  run_agree (volume_at at len) a b (agree_on_looks (IsGuarded volume) (volume_at at len) a b agree.same_length (same_in_guard a b volume agree) (volume_looks a at len volume gives)) ∙ gives,
+  result_agree (volume_at at len) a b (agree_on_looks (IsGuarded volume) (volume_at at len) a b agree.same_length (same_in_guard a b volume agree) (volume_looks a at len volume gives)) ∙ gives,
   ap (λ size. guard_of size volume) (sym agree.same_length),
 )

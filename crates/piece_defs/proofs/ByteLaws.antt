@@ -66,13 +66,13 @@ nothing rest m none = ap (λ k. take k (drop 0 rest)) none
 
 -- a part that begins in the first bytes: what it has of them, and the rest behind them
 pub part-next : (first rest : List ℕ) (skip n m : ℕ) → skip ≤ length first → n ≡ min (length first - skip) m → part (first ++ rest) skip m ≡ part first skip n ++ part rest 0 (m - n)
-part-next first rest skip n m begun is =
+part-next first rest skip n m current is =
     ⊎_elim
     (λ inside.
     let all : m ≡ n = omega (arith, is, inside) in
     let none : m - n ≡ 0 = omega (arith, all) in
     part-inside first rest skip m (omega (arith, inside)) ∙ ap (part first skip) all ∙ sym (ap (λ bytes. part first skip n ++ bytes) (nothing rest (m - n) none) ∙ append-nil (part first skip n)))
-    (λ across. part-across first rest skip n m (omega (arith, is, begun, across)) (omega (arith, is)))
+    (λ across. part-across first rest skip n m (omega (arith, is, current, across)) (omega (arith, is)))
     (cases_le (skip + m) (length first))
   where
     cases_le : (a b : ℕ) → (a ≤ b) ⊎ (b ≤ a)

@@ -7,7 +7,7 @@ use Rattle.std.proofs.lemmas.List.Elements.{All-head, All-tail, All-nil}
 use Rattle.rx_ranges.specs.declared.pieces.Piece.{Piece}
 use Rattle.rx_ranges.specs.declared.pieces.PieceKind.{PieceKind}
 use Rattle.rx_ranges.specs.declared.pieces.PieceKind.TheVariants.{Disk, Zero}
-use Rattle.piece_defs.specs.Covering.{goes_on, begins_anew, covers_from}
+use Rattle.piece_defs.specs.Covering.{is_contiguous, starts_new_piece, covers_from}
 use Rattle.piece_defs.specs.Places.{of_kind, IsPlaced}
 use Rattle.piece_defs.specs.Joined.{grown, joined_onto, AreInARow}
 use Rattle.piece_defs.proofs.Joined.{joined_onto_all, joined_onto_covers}
@@ -15,7 +15,7 @@ use Rattle.piece_defs.specs.JoinedLaws.{JoinedLaw}
 
 -- where a piece goes on, a byte of the next stands where the grown one puts it
 goes_to : (kind other : PieceKind) (from len at next_from next_len next_at byte : ℕ) → next_from ≡ from + len → from + len ≤ byte
-    → goes_on (record { from = from; len = len; kind = kind; at = at }) (record { from = next_from; len = next_len; kind = other; at = next_at }) ≡ true
+    → is_contiguous (record { from = from; len = len; kind = kind; at = at }) (record { from = next_from; len = next_len; kind = other; at = next_at }) ≡ true
     → of_kind other (next_at + (byte - next_from)) ≡ of_kind kind (at + (byte - from))
 goes_to Disk Disk from len at next_from next_len next_at byte follows behind goes =
     let meets : at + len ≡ next_at = (Decides-eqb (at + len) next_at).0 goes in
@@ -26,17 +26,17 @@ goes_to Zero Disk from len at next_from next_len next_at byte follows behind goe
 goes_to Zero Zero from len at next_from next_len next_at byte follows behind goes = refl
 
 -- a grown piece puts its bytes where they stand
-pub grown_placed : (place : ℕ → Option ℕ) (begun next : Piece) → IsPlaced place begun → IsPlaced place next
-    → goes_on begun next ≡ true → next.from ≡ begun.from + begun.len → IsPlaced place (grown begun next)
-grown_placed place begun next first second goes follows = record {
+pub grown_placed : (place : ℕ → Option ℕ) (current next : Piece) → IsPlaced place current → IsPlaced place next
+    → is_contiguous current next ≡ true → next.from ≡ current.from + current.len → IsPlaced place (grown current next)
+grown_placed place current next first second goes follows = record {
   plain = first.plain;
   bytes = λ byte from before.
       ⊎_elim
       (λ inside. first.bytes byte from inside)
       (λ behind.
       second.bytes byte (omega (arith, follows, behind)) (omega (arith, follows, before))
-      ∙ goes_to begun.kind next.kind begun.from begun.len begun.at next.from next.len next.at byte follows behind goes)
-      (cases_lt byte (begun.from + begun.len));
+      ∙ goes_to current.kind next.kind current.from current.len current.at next.from next.len next.at byte follows behind goes)
+      (cases_lt byte (current.from + current.len));
 }
 
 row_behind : (piece : Piece) (rest : List Piece) (size : ℕ) → AreInARow 0 size (piece ∷ rest) → AreInARow (piece.from + piece.len) size rest
@@ -62,14 +62,14 @@ joined_law place size (piece ∷ rest) row placed = record {
 pub record IsFirst (from size : ℕ) (piece : Piece) (pieces : List Piece) : Type 0 where
   pub begins : piece.from ≡ from
   pub some : 0 < piece.len
-  pub anew : begins_anew piece pieces ≡ true
+  pub anew : starts_new_piece piece pieces ≡ true
   pub rest : covers_from (from + piece.len) size pieces ≡ true
 
 pub first_of_all : (from size : ℕ) (piece : Piece) (pieces : List Piece) → covers_from from size (piece ∷ pieces) ≡ true → IsFirst from size piece pieces
 first_of_all from size piece pieces covered =
-    let a = and_parts (piece.from == from) (nat_lt 0 piece.len && (begins_anew piece pieces && covers_from (from + piece.len) size pieces)) covered in
-    let b = and_parts (nat_lt 0 piece.len) (begins_anew piece pieces && covers_from (from + piece.len) size pieces) a.1 in
-    let c = and_parts (begins_anew piece pieces) (covers_from (from + piece.len) size pieces) b.1 in
+    let a = and_parts (piece.from == from) (nat_lt 0 piece.len && (starts_new_piece piece pieces && covers_from (from + piece.len) size pieces)) covered in
+    let b = and_parts (nat_lt 0 piece.len) (starts_new_piece piece pieces && covers_from (from + piece.len) size pieces) a.1 in
+    let c = and_parts (starts_new_piece piece pieces) (covers_from (from + piece.len) size pieces) b.1 in
     record {
       begins = (Decides-eqb piece.from from).0 a.0;
       some = ltb-true 0 piece.len b.0;

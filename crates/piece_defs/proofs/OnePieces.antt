@@ -8,7 +8,7 @@ use Rattle.std.proofs.lemmas.List.Elements.{All-head, All-tail}
 use Rattle.rx_ranges.specs.declared.pieces.Piece.{Piece}
 use Rattle.rx_ranges.specs.declared.pieces.PieceKind.{PieceKind}
 use Rattle.rx_ranges.specs.declared.pieces.PieceKind.TheVariants.{Disk, Zero}
-use Rattle.piece_defs.specs.Covering.{goes_on, covers_from}
+use Rattle.piece_defs.specs.Covering.{is_contiguous, covers_from}
 use Rattle.piece_defs.specs.Places.{of_kind, IsPlain, IsPlaced}
 use Rattle.piece_defs.proofs.JoinedLaws.{IsFirst, first_of_all}
 use Rattle.piece_defs.specs.OnePieces.{OnePiecesLaw}
@@ -38,7 +38,7 @@ same_at Zero Zero at place one two same = one ∙ sym two
 
 -- a piece that goes on where another ends, by its place
 would_go_on : (kind other : PieceKind) (from len at next_from next_len next_at : ℕ) → of_kind kind (at + len) ≡ of_kind other next_at
-    → goes_on (record { from = from; len = len; kind = kind; at = at }) (record { from = next_from; len = next_len; kind = other; at = next_at }) ≡ true
+    → is_contiguous (record { from = from; len = len; kind = kind; at = at }) (record { from = next_from; len = next_len; kind = other; at = next_at }) ≡ true
 would_go_on Disk Disk from len at next_from next_len next_at same = (Decides-eqb (at + len) next_at).1 (same_stored (at + len) next_at same)
 would_go_on Disk Zero from len at next_from next_len next_at same = absurd cc
 would_go_on Zero Disk from len at next_from next_len next_at same = absurd cc

@@ -3,7 +3,7 @@ use Rattle.std.specs.Prelude.{◌≡◌, ℕ, ◌+◌, ◌<◌, Bool, true, fals
 use Rattle.std.proofs.Common.{ap, sym, ◌∙◌, subst, arith}
 use Rattle.std.proofs.lemmas.List.Elements.{All-push}
 use Rattle.rx_ranges.specs.declared.pieces.Piece.{Piece}
-use Rattle.piece_defs.specs.Covering.{goes_on, covers_from}
+use Rattle.piece_defs.specs.Covering.{is_contiguous, covers_from}
 use Rattle.piece_defs.specs.Places.{IsPlaced, ArePiecesAt}
 use Rattle.piece_defs.specs.Joined.{joined_onto, joined_pieces, AreInARow}
 use Rattle.piece_defs.proofs.Joined.{joined_onto_stands}
@@ -16,7 +16,7 @@ put_joined from end first [] piece covered = refl
 put_joined from end first (next ∷ rest) piece covered =
     let facts = first_of_all from end first (next ∷ rest) covered in
     ap (λ list. first ∷ list) (put_joined (from + first.len) end next rest piece facts.rest)
-    ∙ sym (joined_onto_stands first next (rest ++ piece ∷ []) (not_true (goes_on first next) facts.anew))
+    ∙ sym (joined_onto_stands first next (rest ++ piece ∷ []) (not_true (is_contiguous first next) facts.anew))
   where
     not_true : (goes : Bool) → not goes ≡ true → goes ≡ false
     not_true true is = absurd cc

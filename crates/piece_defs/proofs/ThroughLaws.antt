@@ -42,10 +42,10 @@ bytes_there image place from size (piece ∷ pieces) row placed within n inside 
 
 through_there : (place : ℕ → Option ℕ) (from size : ℕ) (pieces : List Piece) → AreInARow from size pieces → All (IsPlaced place) pieces → (byte : ℕ) → from ≤ byte → byte < size
     → place_through pieces byte ≡ place byte
-through_there place from size [] row placed byte begun inside = absurd (omega (arith, row, begun, inside))
-through_there place from size (piece ∷ pieces) row placed byte begun inside =
+through_there place from size [] row placed byte current inside = absurd (omega (arith, row, current, inside))
+through_there place from size (piece ∷ pieces) row placed byte current inside =
     ⊎_elim
-    (λ here. rw (lt-ltb byte (piece.from + piece.len) here) (sym ((All-head (IsPlaced place) piece pieces placed).bytes byte (omega (arith, row.0, begun)) here)))
+    (λ here. rw (lt-ltb byte (piece.from + piece.len) here) (sym ((All-head (IsPlaced place) piece pieces placed).bytes byte (omega (arith, row.0, current)) here)))
     (λ behind. rw (le-ltb byte (piece.from + piece.len) behind) (through_there place (from + piece.len) size pieces row.2 (All-tail (IsPlaced place) piece pieces placed) byte (omega (arith, row.0, behind)) inside))
     (cases_lt byte (piece.from + piece.len))
 

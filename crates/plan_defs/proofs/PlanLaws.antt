@@ -24,8 +24,8 @@ use Rattle.rx_ranges.specs.declared.plan.ListKind.TheVariants as kinds
 use Rattle.rx_tree.specs.declared.part.Role.{Role}
 use Rattle.rx_tree.specs.declared.part.Role.TheVariants as roles
 use Rattle.rx_tree.specs.declared.file.FileEntry.{FileEntry}
-use Rattle.rx_tree.specs.FoundPart.{FoundPart}
-use Rattle.rx_tree.specs.FoundTree.{FoundTree}
+use Rattle.rx_tree.specs.PartValue.{PartValue}
+use Rattle.rx_tree.specs.TreeValue.{TreeValue}
 use Rattle.piece_defs.specs.Places.{IsWithin as PieceWithin}
 use Rattle.rx_tree.specs.Within.{ArePiecesWithin, AreRangesWithin, ArePartsWithin, AreFilesWithin, IsWithin}
 use Rattle.rule_defs.specs.declared.Rule.{Rule}
@@ -49,12 +49,12 @@ disk_range-of_kind end from size at Disk fits =
     All-cons (RangeEndsBy end) (record { at = at; len = size }) [] fits (All-nil (RangeEndsBy end))
 disk_range-of_kind end from size at Zero fits = All-nil (RangeEndsBy end)
 
-disk_ranges-within : (end : ℕ) (part : FoundPart) → ArePiecesWithin end part.pieces → All (RangeEndsBy end) (disk_ranges part)
+disk_ranges-within : (end : ℕ) (part : PartValue) → ArePiecesWithin end part.pieces → All (RangeEndsBy end) (disk_ranges part)
 disk_ranges-within end part within =
     All-flat_map (λ piece. PieceWithin end piece.kind piece.at piece.len) (RangeEndsBy end) disk_range
     (λ piece fits. disk_range-of_kind end piece.from piece.len piece.at piece.kind fits) part.pieces within
 
-content_range-of_role : (end : ℕ) (role : Role) (part : FoundPart) → ArePiecesWithin end part.pieces
+content_range-of_role : (end : ℕ) (role : Role) (part : PartValue) → ArePiecesWithin end part.pieces
     → All (RangeEndsBy end) (content_range (record part { role = role }))
 content_range-of_role end roles.Content part within = disk_ranges-within end part within
 content_range-of_role end roles.Other part within = All-nil (RangeEndsBy end)
@@ -92,7 +92,7 @@ piece-longer short long Disk at size longer less = omega (arith, longer, less)
 piece-longer short long Zero at size longer less = tt
 
 -- what a file is said to lie within can be longer
-pub parts-longer : (short long : ℕ) (parts : List FoundPart) → short ≤ long → ArePartsWithin short parts → ArePartsWithin long parts
+pub parts-longer : (short long : ℕ) (parts : List PartValue) → short ≤ long → ArePartsWithin short parts → ArePartsWithin long parts
 parts-longer short long parts longer within =
     All-weaker (λ part. ArePiecesWithin short part.pieces × AreRangesWithin short part.slack)
     (λ part. ArePiecesWithin long part.pieces × AreRangesWithin long part.slack)
@@ -103,14 +103,14 @@ parts-longer short long parts longer within =
     parts within
 
 -- a file of a tree lies within the image
-pub file-within : (tree : FoundTree) (files : List FileEntry) (index : ℕ) (file : FileEntry) → IsWithin tree → files ≡ tree.files
+pub file-within : (tree : TreeValue) (files : List FileEntry) (index : ℕ) (file : FileEntry) → IsWithin tree → files ≡ tree.files
     → index < length files → file ≡ get_or files index file → ArePartsWithin tree.image_len file.parts
 file-within tree files index file within files_are inside is =
     subst (λ (f : FileEntry). ArePartsWithin tree.image_len f.parts) (sym is)
     (All-same (λ f. ArePartsWithin tree.image_len f.parts) files tree.files files_are within.files index file inside)
 
 -- and so in reach
-pub file-in_reach : (tree : FoundTree) (files : List FileEntry) (index : ℕ) (file : FileEntry) → IsWithin tree → files ≡ tree.files
+pub file-in_reach : (tree : TreeValue) (files : List FileEntry) (index : ℕ) (file : FileEntry) → IsWithin tree → files ≡ tree.files
     → index < length files → file ≡ get_or files index file → ArePartsWithin REACH file.parts
 file-in_reach tree files index file within files_are inside is =
     parts-longer tree.image_len REACH file.parts (omega (arith, within.in_reach))
@@ -177,14 +177,14 @@ claims-in_reach end claims reach within =
     All-weaker (EndsBy end) (λ claim. EndsInReach claim.range) (λ claim less. omega (arith, less)) claims within
 
 -- the claims on a tree's files end in reach
-pub all_claims-in_reach : (tree : FoundTree) (rules : List Rule) (files : List FileEntry) (claims : List Claim) → IsWithin tree
+pub all_claims-in_reach : (tree : TreeValue) (rules : List Rule) (files : List FileEntry) (claims : List Claim) → IsWithin tree
     → files ≡ tree.files → claims ≡ all_claims rules files → All (λ claim. EndsInReach claim.range) claims
 all_claims-in_reach tree rules files claims within files_are claims_are =
     All-same (λ claim. EndsInReach claim.range) claims (all_claims rules tree.files) (claims_are ∙ ap (all_claims rules) files_are)
     (claims-in_reach tree.image_len (all_claims rules tree.files) within.in_reach (claims-within tree.image_len rules tree.files within.files))
 
 -- a map that paints as the claims on a tree's files do is the plan's, and ends where the image does
-pub ranges-within : (tree : FoundTree) (rules : List Rule) (ranges : List Claim) → IsWithin tree → IsFillMap ranges
+pub ranges-within : (tree : TreeValue) (rules : List Rule) (ranges : List Claim) → IsWithin tree → IsFillMap ranges
     → ((byte : ℕ) → painted ranges byte ≡ planned_at rules tree.files byte) → All (EndsBy tree.image_len) ranges
 ranges-within tree rules ranges within kept same =
     ends_where_painted ranges tree.image_len kept
@@ -192,7 +192,7 @@ ranges-within tree rules ranges within kept same =
     (claims-within tree.image_len rules tree.files within.files) behind)
 
 -- the parts of a plan, and that they are the plan
-pub plan-by_parts : (tree : FoundTree) (rules : List Rule) (ranges : List Claim) (lines : List Listed)
+pub plan-by_parts : (tree : TreeValue) (rules : List Rule) (ranges : List Claim) (lines : List Listed)
     → IsWithin tree → IsFillMap ranges → ((byte : ℕ) → painted ranges byte ≡ planned_at rules tree.files byte)
     → lines ≡ flat_map (lines_of rules tree.image_len (is_painted ranges)) tree.files
     → record { image_len = tree.image_len; ranges = ranges; listing = lines } ≡ plan_of tree rules
@@ -205,7 +205,7 @@ plan-by_parts tree rules ranges lines within kept same lines_are =
     cc
 
 -- the least byte that a set with the planned bytes shares with the guard
-pub guarded-by_least : (tree : FoundTree) (rules : List Rule) (ranges : List Claim) (planned : List Range) (answer : Option ℕ) → IsWithin tree
+pub guarded-by_least : (tree : TreeValue) (rules : List Rule) (ranges : List Claim) (planned : List Range) (answer : Option ℕ) → IsWithin tree
     → ((byte : ℕ) → painted ranges byte ≡ planned_at rules tree.files byte) → ((byte : ℕ) → covers planned byte ≡ is_some (painted ranges byte))
     → IsLeast (λ byte. covers planned byte && covers tree.guard byte) answer → answer ≡ guarded_byte tree rules
 unfolding guarded_byte

@@ -11,8 +11,8 @@ use Rattle.rx_ranges.specs.declared.plan.Listed.{Listed}
 use Rattle.rx_ranges.specs.declared.plan.ListKind.{ListKind}
 use Rattle.rx_ranges.specs.declared.plan.ListKind.TheVariants.{File, Alias}
 use Rattle.rx_tree.specs.declared.file.FileEntry.{FileEntry}
-use Rattle.rx_tree.specs.FoundPart.{FoundPart}
-use Rattle.rx_tree.specs.FoundTree.{FoundTree}
+use Rattle.rx_tree.specs.PartValue.{PartValue}
+use Rattle.rx_tree.specs.TreeValue.{TreeValue}
 use Rattle.rule_defs.specs.declared.Rule.{Rule}
 use Rattle.rule_defs.specs.Settle.{settling_rule, claims_on, disk_ranges}
 
@@ -32,7 +32,7 @@ abbrev pub is_planned : List Rule → List FileEntry → ℕ → Bool
 is_planned rules files byte = is_painted (all_claims rules files) byte
 
 -- the bytes of the image that a part has: those of its pieces, and its slack
-abbrev pub part_ranges : FoundPart → List Range
+abbrev pub part_ranges : PartValue → List Range
 part_ranges part = disk_ranges part ++ part.slack
 
 -- the bytes of the image that a file touches
@@ -73,7 +73,7 @@ lines_of rules len planned file = file_lines len planned (listed_as rules file) 
 
 -- the plan of a tree and its rules: the longest ranges of equal rule over the planned bytes, and the lines of the
 -- files in the tree's order
-unfoldable pub plan_of : FoundTree → List Rule → Plan
+unfoldable pub plan_of : TreeValue → List Rule → Plan
 plan_of tree rules = record {
   image_len = tree.image_len;
   ranges = longest_claims (planned_at rules tree.files) 0 tree.image_len;
@@ -81,10 +81,10 @@ plan_of tree rules = record {
 }
 
 -- the least planned byte that lies in the guard, if there is one
-unfoldable pub guarded_byte : FoundTree → List Rule → Option ℕ
+unfoldable pub guarded_byte : TreeValue → List Rule → Option ℕ
 guarded_byte tree rules =
     least_below (λ byte. is_planned rules tree.files byte && covers tree.guard byte) tree.image_len
 
 -- the number of the rule by which a byte is planned, if it is planned
-abbrev pub planning_rule : List Rule → FoundTree → ℕ → Option ℕ
+abbrev pub planning_rule : List Rule → TreeValue → ℕ → Option ℕ
 planning_rule rules tree byte = option_map (λ paint. paint.0) (planned_at rules tree.files byte)

@@ -2,7 +2,7 @@
 use Rattle.std.proofs.Common.{◌≡◌, refl, sym, subst, ℕ, Option, Some, None, IfSome, Ok, List}
 use Rattle.rule_defs.specs.declared.Rule.{Rule}
 use Rattle.rule_defs.specs.Reads.{Reads, SaysNoRules}
-use Rattle.rx_tree.specs.FoundTree.{FoundTree}
+use Rattle.rx_tree.specs.TreeValue.{TreeValue}
 use Rattle.volume_defs.specs.FirstTree.{first_tree}
 use Rattle.plan_defs.specs.Plan.{plan_of, guarded_byte, planning_rule}
 use Rattle.text_defs.specs.Report.{report}
@@ -34,7 +34,7 @@ pub rules_refused : (text image : Option (List ℕ)) (W P : List ℕ → Type 0)
     → (fault ≡ rules.OtherForm → IfSome text SaysNoRules) → IfBothTold text image (λ t i. PlanSays status t i W P)
 rules_refused text image W P fault status is other = told_of text image W P status (status_of_rules fault) is (rules_say text image W P fault other)
 
-plan_says : (text image : Option (List ℕ)) (W P : List ℕ → Type 0) (rules : List Rule) (tree : FoundTree) (fault : PlanFault)
+plan_says : (text image : Option (List ℕ)) (W P : List ℕ → Type 0) (rules : List Rule) (tree : TreeValue) (fault : PlanFault)
     → IfSome text (λ t. Reads t rules) → IfSome image (λ i. first_tree i ≡ Ok tree)
     → ((at rule : ℕ) → fault ≡ plan.MeetsGuard at rule → (guarded_byte tree rules ≡ Some at) × (planning_rule rules tree at ≡ Some rule))
     → IfBothTold text image (λ t i. PlanSays (status_of_planning fault) t i W P)
@@ -46,7 +46,7 @@ plan_says (Some t) (Some i) W P rules tree (plan.MeetsGuard at rule) reads tree_
 plan_says (Some t) (Some i) W P rules tree plan.NoMemory reads tree_is guarded = tt
 
 -- where the plan was not made
-pub plan_refused : (text image : Option (List ℕ)) (W P : List ℕ → Type 0) (rules : List Rule) (tree : FoundTree) (fault : PlanFault) (status : Status)
+pub plan_refused : (text image : Option (List ℕ)) (W P : List ℕ → Type 0) (rules : List Rule) (tree : TreeValue) (fault : PlanFault) (status : Status)
     → status ≡ status_of_planning fault → IfSome text (λ t. Reads t rules) → IfSome image (λ i. first_tree i ≡ Ok tree)
     → ((at rule : ℕ) → fault ≡ plan.MeetsGuard at rule → (guarded_byte tree rules ≡ Some at) × (planning_rule rules tree at ≡ Some rule))
     → IfBothTold text image (λ t i. PlanSays status t i W P)
@@ -54,7 +54,7 @@ plan_refused text image W P rules tree fault status is reads tree_is guarded =
     told_of text image W P status (status_of_planning fault) is (plan_says text image W P rules tree fault reads tree_is guarded)
 
 -- where the report was written, or some first bytes of it
-pub reported : (text image : Option (List ℕ)) (W : List ℕ → Type 0) (rules : List Rule) (tree : FoundTree) → IfSome text (λ t. Reads t rules)
+pub reported : (text image : Option (List ℕ)) (W : List ℕ → Type 0) (rules : List Rule) (tree : TreeValue) → IfSome text (λ t. Reads t rules)
     → IfSome image (λ i. first_tree i ≡ Ok tree) → guarded_byte tree rules ≡ None → W (report (plan_of tree rules) Planned)
     → IfBothTold text image (λ t i. HasReport t i W)
 reported None image W rules tree reads tree_is unguarded wrote = tt

@@ -12,7 +12,7 @@ use Rattle.rx_tree.specs.declared.file.Kind.TheVariants.{File, Dir, Link, Other,
 use Rattle.rx_tree.specs.declared.part.Role.{Role}
 use Rattle.rx_tree.specs.declared.part.Role.TheVariants as roles
 use Rattle.rx_tree.specs.declared.file.FileEntry.{FileEntry}
-use Rattle.rx_tree.specs.FoundPart.{FoundPart}
+use Rattle.rx_tree.specs.PartValue.{PartValue}
 use Rattle.rule_defs.specs.declared.Rule.{Rule}
 use Rattle.rule_defs.specs.declared.Action.{Action}
 use Rattle.rule_defs.specs.declared.Action.TheVariants.{Fill}
@@ -50,11 +50,11 @@ disk_range piece = of_kind piece.kind (record { at = piece.at; len = piece.len }
     of_kind Zero range = []
 
 -- the bytes of the image that a part's pieces have
-abbrev pub disk_ranges : FoundPart → List Range
+abbrev pub disk_ranges : PartValue → List Range
 disk_ranges part = flat_map disk_range part.pieces
 
 -- those of a part that is content
-abbrev pub content_range : FoundPart → List Range
+abbrev pub content_range : PartValue → List Range
 content_range part = of_role part.role (disk_ranges part)
   where
     of_role : Role → List Range → List Range

@@ -210,7 +210,7 @@ fn images_of_another_form_are_not_built(rt: HostRuntime) -> Result<(), Fail> {
         (ENTRIES + 32, b"/"),
         (ENTRIES + 24, b"\x10"),
         (ENTRIES + 24, b"\x02"),
-        // the file: a folder, a snapshot, an extended area, a second block without a pointer, a pointer that is negative, that
+        // the file: a directory, a snapshot, an extended area, a second block without a pointer, a pointer that is negative, that
         // leads past the end, and that is 0
         (FILE, b"\xA4\x41"),
         (FILE + 88, b"\x00\x00\x20\x00"),

@@ -4,14 +4,14 @@ use Rattle.std.specs.Option.{option_map}
 use Rattle.range_defs.specs.declared.Claim.{Claim}
 use Rattle.range_defs.specs.Claims.{painted}
 use Rattle.rx_ranges.specs.declared.plan.Plan.{Plan}
-use Rattle.rx_tree.specs.FoundTree.{FoundTree}
+use Rattle.rx_tree.specs.TreeValue.{TreeValue}
 use Rattle.rule_defs.specs.declared.Rule.{Rule}
 use Rattle.plan_defs.specs.Plan.{planned_at, guarded_byte, planning_rule}
 use Rattle.rx_plan.specs.declared.PlanFault.{PlanFault}
 use Rattle.rx_plan.specs.declared.PlanFault.TheVariants.{MeetsGuard}
 
 -- the refusal names the least byte of the guard that is planned, and its rule
-pub names_guarded : (tree : FoundTree) (rules : List Rule) (fills : List Claim) (found number at rule : ℕ)
+pub names_guarded : (tree : TreeValue) (rules : List Rule) (fills : List Claim) (found number at rule : ℕ)
     → Some found ≡ guarded_byte tree rules → ((byte : ℕ) → painted fills byte ≡ planned_at rules tree.files byte)
     → option_map (λ paint. paint.0) (painted fills found) ≡ Some number
     → ◌≡◌ {A = Result Plan PlanFault} (Err (MeetsGuard found number)) (Err (MeetsGuard at rule))

@@ -1,5 +1,5 @@
-pub mod FoundPart
-pub mod FoundTree
+pub mod PartValue
+pub mod TreeValue
 pub mod Order
 pub mod Path
 pub mod PartOrder

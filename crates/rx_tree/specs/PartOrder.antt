@@ -4,7 +4,7 @@ use Rattle.std.specs.Cmp.Lexicographic.{slice_cmp}
 use Rattle.std.specs.Ordering.{nat_cmp, match_ordering}
 use Rattle.std.specs.declared.cmp.Ordering.{Ordering}
 use Rattle.std.specs.declared.cmp.Ordering.TheVariants.{Less, Greater}
-use Rattle.rx_tree.specs.FoundPart.{FoundPart}
+use Rattle.rx_tree.specs.PartValue.{PartValue}
 use Rattle.rx_tree.specs.declared.part.Role.{Role}
 use Rattle.rx_tree.specs.declared.part.Role.TheVariants.{Content, Other}
 
@@ -14,8 +14,8 @@ rank_of Content = 0
 rank_of Other = 1
 
 -- parts are compared by role, and then by the bytes of their names
-abbrev pub part_cmp : FoundPart → FoundPart → Ordering
+abbrev pub part_cmp : PartValue → PartValue → Ordering
 part_cmp a b = match_ordering (nat_cmp (rank_of a.role) (rank_of b.role)) Less (slice_cmp nat_cmp a.name b.name) Greater
 
-abbrev pub ArePartsSorted : List FoundPart → Type 0
+abbrev pub ArePartsSorted : List PartValue → Type 0
 ArePartsSorted parts = IsSorted part_cmp parts

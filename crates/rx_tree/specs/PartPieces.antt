@@ -4,7 +4,7 @@ use Rattle.range_defs.specs.declared.Range.{Range}
 use Rattle.rx_ranges.specs.declared.pieces.Piece.{Piece}
 use Rattle.rx_ranges.specs.declared.pieces.PieceKind.{PieceKind}
 use Rattle.rx_ranges.specs.declared.pieces.PieceKind.TheVariants.{Disk, Zero}
-use Rattle.piece_defs.specs.Covering.{goes_on, covers_from}
+use Rattle.piece_defs.specs.Covering.{is_contiguous, covers_from}
 use Rattle.piece_defs.specs.Places.{IsPlain}
 
 abbrev pub is_on_disk : PieceKind → Bool
@@ -14,7 +14,7 @@ is_on_disk Zero = false
 -- the next run can't be one with this: it begins elsewhere, in the part or in the image
 abbrev pub begins_apart : Piece → List Piece → Bool
 begins_apart run [] = true
-begins_apart run (next ∷ runs) = not (run.from + run.len == next.from && goes_on run next)
+begins_apart run (next ∷ runs) = not (run.from + run.len == next.from && is_contiguous run next)
 
 -- runs on the disk from a byte of the part on, in order; none is empty, and each is as long as possible
 abbrev pub are_runs_from : ℕ → List Piece → Bool

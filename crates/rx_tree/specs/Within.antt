@@ -3,8 +3,8 @@ use Rattle.std.specs.Prelude.{ℕ, ◌+◌, ◌≤◌, All, List}
 use Rattle.range_defs.specs.declared.Range.{Range}
 use Rattle.rx_ranges.specs.declared.pieces.Piece.{Piece}
 use Rattle.piece_defs.specs.Places.{AreWithin}
-use Rattle.rx_tree.specs.FoundPart.{FoundPart}
-use Rattle.rx_tree.specs.FoundTree.{FoundTree}
+use Rattle.rx_tree.specs.PartValue.{PartValue}
+use Rattle.rx_tree.specs.TreeValue.{TreeValue}
 use Rattle.rx_tree.specs.declared.file.FileEntry.{FileEntry}
 use Rattle.rx_tree.specs.declared.volume.Volume.{Volume}
 
@@ -16,7 +16,7 @@ AreRangesWithin len = All (λ range. range.at + range.len ≤ len)
 abbrev pub ArePiecesWithin : ℕ → List Piece → Type 0
 ArePiecesWithin len pieces = AreWithin len pieces
 
-abbrev pub ArePartsWithin : ℕ → List FoundPart → Type 0
+abbrev pub ArePartsWithin : ℕ → List PartValue → Type 0
 ArePartsWithin len = All (λ part. ArePiecesWithin len part.pieces × AreRangesWithin len part.slack)
 
 abbrev pub AreFilesWithin : ℕ → List FileEntry → Type 0
@@ -26,7 +26,7 @@ abbrev pub AreVolumesWithin : ℕ → List Volume → Type 0
 AreVolumesWithin len = All (λ volume. volume.at + volume.len ≤ len)
 
 -- a tree's image has at most 2^46 bytes, and all that the tree says lies in it
-pub record IsWithin (tree : FoundTree) : Type 0 where
+pub record IsWithin (tree : TreeValue) : Type 0 where
   pub in_reach : tree.image_len ≤ 70368744177664
   pub volumes : AreVolumesWithin tree.image_len tree.volumes
   pub unread : AreRangesWithin tree.image_len tree.unread

@@ -68,16 +68,16 @@ impl From<AllocError> for PathFault {
     }
 }
 
-/// The path of a name in a folder: the folder's path, a slash where that isn't the root's, and the name.
+/// The path of a name in a directory: the directory's path, a slash where that isn't the root's, and the name.
 pub fn join_path(alloc: Global, parent: &Text, name: &Text) -> Result<Text, PathFault>
     ensures joined { IfOk result (λ path. path ≡ joined_path parent.now name.now) }
     ensures fits { OnOk result (length (joined_path parent.now name.now) ≤ MAX_PATH) }
     ensures too_long { IsErrOf result PathFault.TooLong → MAX_PATH < length (joined_path parent.now name.now) }
 {
-    let folder = parent.as_str();
-    let slash = if folder == "/" { "" } else { "/" };
+    let directory = parent.as_str();
+    let slash = if directory == "/" { "" } else { "/" };
     let last = name.as_str();
-    let len = folder
+    let len = directory
         .len()
         .saturating_add(slash.len())
         .saturating_add(last.len());
@@ -85,7 +85,7 @@ pub fn join_path(alloc: Global, parent: &Text, name: &Text) -> Result<Text, Path
         return Err(PathFault::TooLong);
     }
     let mut path = String::with_capacity(alloc, len)?;
-    path.push_str(folder)?;
+    path.push_str(directory)?;
     path.push_str(slash)?;
     path.push_str(last)?;
     Ok(Text::from_string(path))

@@ -31,10 +31,10 @@ pub struct Part {
 }
 
 impl Model for Part {
-    ghost use Rattle.rx_tree.specs.FoundPart.{FoundPart};
+    ghost use Rattle.rx_tree.specs.PartValue.{PartValue};
     ghost use Rattle.rx_tree.specs.PartPieces.{AreOfPart, ArePlain};
 
-    ghost Value = { FoundPart };
+    ghost Value = { PartValue };
 
     ghost view = { λ p. record {
       role = p.role;
@@ -56,10 +56,10 @@ pub struct Parts {
 
 impl Model for Parts {
     ghost use Rattle.std.specs.Prelude.{List};
-    ghost use Rattle.rx_tree.specs.FoundPart.{FoundPart};
+    ghost use Rattle.rx_tree.specs.PartValue.{PartValue};
     ghost use Rattle.rx_tree.specs.PartOrder.{ArePartsSorted};
 
-    ghost Value = { List FoundPart };
+    ghost Value = { List PartValue };
 
     ghost view = { λ p. p.parts.items };
 

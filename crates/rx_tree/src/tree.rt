@@ -17,11 +17,11 @@ pub struct Tree {
 }
 
 impl Model for Tree {
-    ghost use Rattle.rx_tree.specs.FoundTree.{FoundTree};
+    ghost use Rattle.rx_tree.specs.TreeValue.{TreeValue};
     ghost use Rattle.rx_tree.specs.Within.{IsWithin};
     ghost use Rattle.rx_tree.specs.Order.{AreInVolumes};
 
-    ghost Value = { FoundTree };
+    ghost Value = { TreeValue };
 
     ghost view = { λ t. record {
       image_len = t.image_len;

@@ -12,7 +12,7 @@ use Rattle.std.proofs.lemmas.Nat.{div-mul-add, mod-mul-add}
 use Rattle.rx_ranges.specs.declared.pieces.Piece.{Piece}
 use Rattle.rx_ranges.specs.declared.pieces.PieceKind.{PieceKind}
 use Rattle.rx_ranges.specs.declared.pieces.PieceKind.TheVariants.{Disk, Zero}
-use Rattle.piece_defs.specs.Covering.{goes_on, covers_from, ArePiecesOf}
+use Rattle.piece_defs.specs.Covering.{is_contiguous, covers_from, ArePiecesOf}
 use Rattle.piece_defs.specs.Places.{IsWithin, IsPlain}
 use Rattle.rx_tree.specs.PartPieces.{ArePlain}
 use Rattle.rx_tree.specs.Within.{ArePiecesWithin}
@@ -144,7 +144,7 @@ content_pieces_cover superblock inode some = grind (arith, content_covers superb
 
 -- what holds of the piece of each block, and of a piece that has grown, holds of the content's pieces
 content_pieces_all : (P : Piece → Type 0) (superblock : Superblock) (inode : Inode) → 0 < block_size superblock
-    → ((begun next : Piece) → P begun → P next → goes_on begun next ≡ true → next.from ≡ begun.from + begun.len → P (grown begun next))
+    → ((current next : Piece) → P current → P next → is_contiguous current next ≡ true → next.from ≡ current.from + current.len → P (grown current next))
     → ((block : ℕ) → block < block_count superblock inode → P (block_piece superblock inode block)) → All P (content_pieces superblock inode)
 content_pieces_all P superblock inode some grows each =
     let Q : List Piece → Type 0 = λ pieces. All P pieces in
@@ -155,7 +155,7 @@ content_pieces_all P superblock inode some grows each =
     (cases_lt (block_count superblock inode) 1)
 
 disks_meet : (kind other : PieceKind) (from len at next_from next_len next_at : ℕ) → kind ≡ Disk → other ≡ Disk
-    → goes_on (record { from = from; len = len; kind = kind; at = at }) (record { from = next_from; len = next_len; kind = other; at = next_at }) ≡ true → at + len ≡ next_at
+    → is_contiguous (record { from = from; len = len; kind = kind; at = at }) (record { from = next_from; len = next_len; kind = other; at = next_at }) ≡ true → at + len ≡ next_at
 disks_meet Disk Disk from len at next_from next_len next_at is next_is goes = (Decides-eqb (at + len) next_at).0 goes
 disks_meet Disk Zero from len at next_from next_len next_at is next_is goes = absurd cc
 disks_meet Zero Disk from len at next_from next_len next_at is next_is goes = absurd cc
@@ -165,32 +165,32 @@ block_placed : (len : ℕ) (superblock : Superblock) (inode : Inode) (block : �
     → IsPlaced len superblock inode (block_piece superblock inode block)
 block_placed len superblock inode block inside = record {
   on_disk = refl;
-  places = λ byte begun before. place byte begun before;
+  places = λ byte current before. place byte current before;
   within = omega (arith, inside);
 }
   where
     place : (byte : ℕ) → block * block_size superblock ≤ byte → byte < block * block_size superblock + min (block_size superblock) (inode.size - block * block_size superblock)
         → block_place superblock inode block + (byte - block * block_size superblock) ≡ content_place superblock inode byte
-    place byte begun before =
+    place byte current before =
         let unit : ℕ = block_size superblock in
         let rest : ℕ = byte - block * unit in
-        let is : block * unit + rest ≡ byte = omega (arith, begun) in
+        let is : block * unit + rest ≡ byte = omega (arith, current) in
         let below : rest < unit = omega (arith, before) in
         let number : byte / unit ≡ block = ap (λ n. n / unit) (sym is) ∙ div-mul-add block unit rest below in
         let behind : byte % unit ≡ rest = ap (λ n. n % unit) (sym is) ∙ mod-mul-add block unit rest below in
         rw (number, behind) refl
 
-grown_placed : (len : ℕ) (superblock : Superblock) (inode : Inode) (begun next : Piece) → IsPlaced len superblock inode begun → IsPlaced len superblock inode next
-    → goes_on begun next ≡ true → next.from ≡ begun.from + begun.len → IsPlaced len superblock inode (grown begun next)
-grown_placed len superblock inode begun next first second goes follows =
-    let meets : begun.at + begun.len ≡ next.at = disks_meet begun.kind next.kind begun.from begun.len begun.at next.from next.len next.at first.on_disk second.on_disk goes in
+grown_placed : (len : ℕ) (superblock : Superblock) (inode : Inode) (current next : Piece) → IsPlaced len superblock inode current → IsPlaced len superblock inode next
+    → is_contiguous current next ≡ true → next.from ≡ current.from + current.len → IsPlaced len superblock inode (grown current next)
+grown_placed len superblock inode current next first second goes follows =
+    let meets : current.at + current.len ≡ next.at = disks_meet current.kind next.kind current.from current.len current.at next.from next.len next.at first.on_disk second.on_disk goes in
     record {
       on_disk = first.on_disk;
       places = λ byte begins before.
           ⊎_elim
           (λ inside. first.places byte begins inside)
           (λ behind. omega (arith, meets, follows, behind) ∙ second.places byte (omega (arith, follows, behind)) (omega (arith, follows, before)))
-          (cases_lt byte (begun.from + begun.len));
+          (cases_lt byte (current.from + current.len));
       within = omega (arith, meets, second.within);
     }
 
@@ -215,7 +215,7 @@ content_pieces_within len superblock inode some inside =
 pub content_pieces_plain : (superblock : Superblock) (inode : Inode) → 0 < block_size superblock → ArePlain (content_pieces superblock inode)
 content_pieces_plain superblock inode some =
     All-weaker (λ piece. piece.kind ≡ Disk) (λ piece. IsPlain piece.kind piece.at) (λ piece disk. on_disk piece.kind piece.at disk) (content_pieces superblock inode)
-    (content_pieces_all (λ piece. piece.kind ≡ Disk) superblock inode some (λ begun next first second goes follows. first) (λ block below. refl))
+    (content_pieces_all (λ piece. piece.kind ≡ Disk) superblock inode some (λ current next first second goes follows. first) (λ block below. refl))
   where
     on_disk : (kind : PieceKind) (at : ℕ) → kind ≡ Disk → IsPlain kind at
     on_disk Disk at disk = tt
@@ -223,37 +223,37 @@ content_pieces_plain superblock inode some =
 
 -- ---- a walk over the blocks
 
--- the pieces that are done, and the one that has begun with the blocks from one on, are all of the content's pieces
-pub record AreJoinedTo (superblock : Superblock) (inode : Inode) (done : List Piece) (begun : Piece) (block : ℕ) : Type 0 where
-  pub whole : content_pieces superblock inode ≡ done ++ joined_onto begun (block_pieces superblock inode block)
+-- the pieces that are done, and the one that has current with the blocks from one on, are all of the content's pieces
+pub record AreJoinedTo (superblock : Superblock) (inode : Inode) (done : List Piece) (current : Piece) (block : ℕ) : Type 0 where
+  pub whole : content_pieces superblock inode ≡ done ++ joined_onto current (block_pieces superblock inode block)
 
 pub joining_starts : (superblock : Superblock) (inode : Inode) → 1 ≤ block_count superblock inode → AreJoinedTo superblock inode [] (block_piece superblock inode 0) 1
 joining_starts superblock inode some = record { whole = content_pieces_some superblock inode some }
 
-pub joining_grows : (superblock : Superblock) (inode : Inode) (done : List Piece) (begun : Piece) (block : ℕ) → AreJoinedTo superblock inode done begun block
-    → block < block_count superblock inode → goes_on begun (block_piece superblock inode block) ≡ true
-    → AreJoinedTo superblock inode done (grown begun (block_piece superblock inode block)) (block + 1)
-joining_grows superblock inode done begun block joined below goes = record {
+pub joining_grows : (superblock : Superblock) (inode : Inode) (done : List Piece) (current : Piece) (block : ℕ) → AreJoinedTo superblock inode done current block
+    → block < block_count superblock inode → is_contiguous current (block_piece superblock inode block) ≡ true
+    → AreJoinedTo superblock inode done (grown current (block_piece superblock inode block)) (block + 1)
+joining_grows superblock inode done current block joined below goes = record {
   whole =
       joined.whole
-      ∙ ap (λ pieces. done ++ joined_onto begun pieces) (block_pieces_next superblock inode block below)
-      ∙ ap (λ pieces. done ++ pieces) (joined_onto_grows begun (block_piece superblock inode block) (block_pieces superblock inode (block + 1)) goes);
+      ∙ ap (λ pieces. done ++ joined_onto current pieces) (block_pieces_next superblock inode block below)
+      ∙ ap (λ pieces. done ++ pieces) (joined_onto_grows current (block_piece superblock inode block) (block_pieces superblock inode (block + 1)) goes);
 }
 
-pub joining_begins_anew : (superblock : Superblock) (inode : Inode) (done : List Piece) (begun : Piece) (block : ℕ) → AreJoinedTo superblock inode done begun block
-    → block < block_count superblock inode → goes_on begun (block_piece superblock inode block) ≡ false
-    → AreJoinedTo superblock inode (done ++ begun ∷ []) (block_piece superblock inode block) (block + 1)
-joining_begins_anew superblock inode done begun block joined below apart =
+pub joining_begins_anew : (superblock : Superblock) (inode : Inode) (done : List Piece) (current : Piece) (block : ℕ) → AreJoinedTo superblock inode done current block
+    → block < block_count superblock inode → is_contiguous current (block_piece superblock inode block) ≡ false
+    → AreJoinedTo superblock inode (done ++ current ∷ []) (block_piece superblock inode block) (block + 1)
+joining_begins_anew superblock inode done current block joined below apart =
     let rest : List Piece = joined_onto (block_piece superblock inode block) (block_pieces superblock inode (block + 1)) in
     record {
       whole =
           joined.whole
-          ∙ ap (λ pieces. done ++ joined_onto begun pieces) (block_pieces_next superblock inode block below)
-          ∙ ap (λ pieces. done ++ pieces) (joined_onto_stands begun (block_piece superblock inode block) (block_pieces superblock inode (block + 1)) apart)
-          ∙ sym (append_assoc done (begun ∷ []) rest);
+          ∙ ap (λ pieces. done ++ joined_onto current pieces) (block_pieces_next superblock inode block below)
+          ∙ ap (λ pieces. done ++ pieces) (joined_onto_stands current (block_piece superblock inode block) (block_pieces superblock inode (block + 1)) apart)
+          ∙ sym (append_assoc done (current ∷ []) rest);
     }
 
-pub joining_ends : (superblock : Superblock) (inode : Inode) (done : List Piece) (begun : Piece) (block : ℕ) → AreJoinedTo superblock inode done begun block
-    → block_count superblock inode ≤ block → content_pieces superblock inode ≡ done ++ begun ∷ []
-joining_ends superblock inode done begun block joined past =
-    joined.whole ∙ ap (λ pieces. done ++ joined_onto begun pieces) (block_pieces_end superblock inode block past)
+pub joining_ends : (superblock : Superblock) (inode : Inode) (done : List Piece) (current : Piece) (block : ℕ) → AreJoinedTo superblock inode done current block
+    → block_count superblock inode ≤ block → content_pieces superblock inode ≡ done ++ current ∷ []
+joining_ends superblock inode done current block joined past =
+    joined.whole ∙ ap (λ pieces. done ++ joined_onto current pieces) (block_pieces_end superblock inode block past)

@@ -5,7 +5,7 @@ use Rattle.std.specs.Int.{div_ceil}
 use Rattle.range_defs.specs.declared.Range.{Range}
 use Rattle.rx_ranges.specs.declared.pieces.Piece.{Piece}
 use Rattle.rx_ranges.specs.declared.pieces.PieceKind.TheVariants.{Disk}
-use Rattle.rx_tree.specs.FoundPart.{FoundPart}
+use Rattle.rx_tree.specs.PartValue.{PartValue}
 use Rattle.rx_tree.specs.declared.part.Role.TheVariants.{Content}
 use Rattle.piece_defs.specs.Joined.{joined_pieces}
 use Rattle.ufs_defs.specs.Signed.{counted}
@@ -58,7 +58,7 @@ content_slack superblock inode =
     else (record { at = content_place superblock inode inode.size; len = block_size superblock - inode.size % block_size superblock } ∷ [])
 
 -- the content of an inode
-unfoldable pub content_of : Superblock → Inode → FoundPart
+unfoldable pub content_of : Superblock → Inode → PartValue
 content_of superblock inode = record {
   role = Content;
   name = [];

@@ -4,7 +4,7 @@ ghost use Rattle.ufs_defs.specs.Blocks.{block_place as block_place_by};
 ghost use Rattle.ufs_defs.specs.SlackLaws.{ContentLaw};
 
 use crate::inode::Inode;
-use crate::signed::counted;
+use crate::signed::non_negative;
 use crate::superblock::Superblock;
 
 /// The place in the volume of a block of an inode, which is one of the first twelve.
@@ -15,7 +15,7 @@ pub fn block_place(superblock: &Superblock, inode: &Inode, block: usize) -> u128
     ensures bounded { result < 2 ^ 96 }
 {
     let pointer = inode.direct[block].max(0) as u64;
-    u128::from(pointer) * u128::from(counted(superblock.fsize))
+    u128::from(pointer) * u128::from(non_negative(superblock.fsize))
 }
 
 /// What the definition gives for the content of a file of at most twelve blocks: pieces that cover it and put each byte

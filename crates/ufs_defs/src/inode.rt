@@ -2,7 +2,7 @@
 ghost use Rattle.std.specs.Prelude.{◌≡◌, ◌<◌, ◌≤◌, ◌^◌, length};
 ghost use Rattle.ufs_defs.specs.Inode.{inode_of, inode_fragment as inode_fragment_by, inode_place as inode_place_by, is_directory as is_directory_by, is_file as is_file_by, is_snapshot as is_snapshot_by};
 
-use crate::signed::counted;
+use crate::signed::non_negative;
 use crate::superblock::Superblock;
 use bytes_defs::field::{i64_at, u16_at, u32_at, u64_at};
 use bytes_defs::order::Order::Little;
@@ -80,8 +80,8 @@ fn inode_fragment(superblock: &Superblock, number: u32) -> u128
 {
     let group = u128::from(number / superblock.ipg);
     let block = u128::from(number % superblock.ipg / superblock.inopb);
-    let start = u128::from(counted(superblock.fpg)) * group;
-    start + u128::from(counted(superblock.iblkno)) + u128::from(counted(superblock.frag)) * block
+    let start = u128::from(non_negative(superblock.fpg)) * group;
+    start + u128::from(non_negative(superblock.iblkno)) + u128::from(non_negative(superblock.frag)) * block
 }
 
 /// The place in the volume of an inode.
@@ -93,5 +93,5 @@ pub fn inode_place(superblock: &Superblock, number: u32) -> u128
     ensures bounded { result < 2 ^ 100 }
 {
     let fragment = inode_fragment(superblock, number);
-    fragment * u128::from(counted(superblock.fsize)) + 256 * u128::from(number % superblock.inopb)
+    fragment * u128::from(non_negative(superblock.fsize)) + 256 * u128::from(number % superblock.inopb)
 }

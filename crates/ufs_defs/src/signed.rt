@@ -3,7 +3,7 @@ ghost use Rattle.std.specs.Prelude.{◌≡◌};
 ghost use Rattle.ufs_defs.specs.Signed.{counted as counted_by};
 
 /// What a signed field counts: nothing where it is below 0.
-pub fn counted(field: i32) -> u32
+pub fn non_negative(field: i32) -> u32
     ensures { result ≡ counted_by field }
 {
     field.max(0) as u32

@@ -2,7 +2,7 @@
 ghost use Rattle.std.specs.Prelude.{◌≡◌, length};
 ghost use Rattle.ufs_defs.specs.Superblock.{is_block_size as is_block_size_by, is_fragment_size as is_fragment_size_by, is_fragment_count as is_fragment_count_by, is_inode_count as is_inode_count_by};
 
-use crate::signed::counted;
+use crate::signed::non_negative;
 use bytes_defs::field::{i32_at, u32_at};
 use bytes_defs::order::Order::Little;
 
@@ -64,9 +64,9 @@ impl Superblock {
     pub fn wrong_field(&self) -> Option<u64>
         ensures { result ≡ wrong_field_of self.now }
     {
-        let block = counted(self.bsize);
-        let fragment = counted(self.fsize);
-        let count = counted(self.frag);
+        let block = non_negative(self.bsize);
+        let fragment = non_negative(self.fsize);
+        let count = non_negative(self.frag);
         if !is_block_size(block) {
             return Some(48);
         }

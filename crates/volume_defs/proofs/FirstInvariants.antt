@@ -7,7 +7,7 @@ use Rattle.std.proofs.lemmas.Bool.{leb-true}
 use Rattle.std.proofs.lemmas.List.Elements.{All-cons, All-nil}
 use Rattle.range_defs.specs.Places.{covers}
 use Rattle.bytes_defs.specs.Bytes.{part}
-use Rattle.image_defs.specs.Ask.{Done, run, visits, each}
+use Rattle.image_defs.specs.Ask.{Done, result_of, visits, each}
 use Rattle.range_defs.proofs.RangeLaws.{longest_ranges_ends}
 use Rattle.image_defs.proofs.Looks.{bind_gives, check_gives}
 use Rattle.rx_tree.specs.Order.{HaveRisingIds, AreInVolumes}
@@ -40,7 +40,7 @@ pub record IsOfFirstForm (size : ℕ) (files : List FileEntry) : Type 0 where
 same_value : {X : Type 0} (a b : X) → (let first : Result X FirstFault = Ok a in let second : Result X FirstFault = Ok b in first ≡ second) → a ≡ b
 same_value a b same = cc
 
-pub superblock_gives : (image : List ℕ) (superblock : Superblock) → run image first_superblock ≡ Ok superblock → is_first_superblock superblock ≡ true
+pub superblock_gives : (image : List ℕ) (superblock : Superblock) → result_of image first_superblock ≡ Ok superblock → is_first_superblock superblock ≡ true
 unfolding first_superblock
 superblock_gives image superblock gives =
     let found : Superblock = superblock_of (part image 65536 1376) in
@@ -48,7 +48,7 @@ superblock_gives image superblock gives =
     let P : Superblock → Type 0 = λ value. is_first_superblock value ≡ true in
     subst P (same_value found superblock tested.1) tested.0
 
-pub root_gives : (image : List ℕ) (size : ℕ) (superblock : Superblock) (root : Inode) → run image (first_root size superblock) ≡ Ok root → is_first_root size superblock root ≡ true
+pub root_gives : (image : List ℕ) (size : ℕ) (superblock : Superblock) (root : Inode) → result_of image (first_root size superblock) ≡ Ok root → is_first_root size superblock root ≡ true
 unfolding first_root
 root_gives image size superblock root gives =
     let found = bind_gives image (first_inode size superblock 2) _ root gives in
@@ -56,7 +56,7 @@ root_gives image size superblock root gives =
     let P : Inode → Type 0 = λ value. is_first_root size superblock value ≡ true in
     subst P (same_value found.0 root tested.1) tested.0
 
-pub file_gives : (image : List ℕ) (size : ℕ) (superblock : Superblock) (entries : List Entry) (number : ℕ) (file : FileEntry) → run image (first_file size superblock entries number) ≡ Ok file
+pub file_gives : (image : List ℕ) (size : ℕ) (superblock : Superblock) (entries : List Entry) (number : ℕ) (file : FileEntry) → result_of image (first_file size superblock entries number) ≡ Ok file
     → IsFileOf size superblock entries number file
 unfolding first_file first_inode
 file_gives image size superblock entries number file gives =
@@ -71,7 +71,7 @@ file_gives image size superblock entries number file gives =
     }
 
 pub files_give : (image : List ℕ) (size : ℕ) (superblock : Superblock) (entries : List Entry) (numbers : List ℕ) (files : List FileEntry)
-    → run image (each (first_file size superblock entries) numbers) ≡ Ok files → AreFilesOf size superblock entries numbers files
+    → result_of image (each (first_file size superblock entries) numbers) ≡ Ok files → AreFilesOf size superblock entries numbers files
 files_give image size superblock entries [] files gives =
     let P : List FileEntry → Type 0 = λ list. AreFilesOf size superblock entries [] list in
     subst P (same_value [] files gives) tt
@@ -82,7 +82,7 @@ files_give image size superblock entries (number ∷ numbers) files gives =
     (file_gives image size superblock entries number found.0 found.2, files_give image size superblock entries numbers found.1 found.3)
 
 below_gives : (image : List ℕ) (size : ℕ) (superblock : Superblock) (files : List FileEntry) → is_first_length size ≡ true → is_first_superblock superblock ≡ true
-    → run image (files_below size superblock) ≡ Ok files → IsOfFirstForm size files
+    → result_of image (files_below size superblock) ≡ Ok files → IsOfFirstForm size files
 unfolding files_below
 below_gives image size superblock files long good gives =
     let root = bind_gives image (first_root size superblock) _ files gives in
@@ -103,7 +103,7 @@ below_gives image size superblock files long good gives =
     }
 
 -- where the definition gives files, the tests made sure of all that
-pub first_files_give : (image : List ℕ) (size : ℕ) (files : List FileEntry) → run image (first_files size) ≡ Ok files → IsOfFirstForm size files
+pub first_files_give : (image : List ℕ) (size : ℕ) (files : List FileEntry) → result_of image (first_files size) ≡ Ok files → IsOfFirstForm size files
 unfolding first_files
 first_files_give image size files gives =
     let long = check_gives image (is_first_length size) NotFirstForm _ files gives in
@@ -118,7 +118,7 @@ first_length_in_reach size long =
     (leb-true 66912 size both.0, leb-true size 70368744177664 both.1)
 
 -- the tree lies in its image
-pub first_tree_within : (image : List ℕ) (files : List FileEntry) → run image (first_files (length image)) ≡ Ok files → IsWithin (tree_of (length image) (guard_of image) files)
+pub first_tree_within : (image : List ℕ) (files : List FileEntry) → result_of image (first_files (length image)) ≡ Ok files → IsWithin (tree_of (length image) (guard_of image) files)
 unfolding guard_of
 first_tree_within image files gives =
     let found = first_files_give image (length image) files gives in
@@ -134,21 +134,21 @@ first_tree_within image files gives =
     }
 
 -- its files stand by rising number
-pub first_tree_rises : (image : List ℕ) (size : ℕ) (files : List FileEntry) → run image (first_files size) ≡ Ok files → HaveRisingIds files
+pub first_tree_rises : (image : List ℕ) (size : ℕ) (files : List FileEntry) → result_of image (first_files size) ≡ Ok files → HaveRisingIds files
 first_tree_rises image size files gives =
     let found = first_files_give image size files gives in
     let P : List FileEntry → Type 0 = λ list. HaveRisingIds list in
     subst P (sym found.whole) (first_files_rise size found.superblock found.root found.entries found.others found.good_entries found.good_files)
 
 -- each of them is in the volume
-pub first_tree_in_volume : (image : List ℕ) (size : ℕ) (files : List FileEntry) → run image (first_files size) ≡ Ok files → AreInVolumes (whole_volume size ∷ []) files
+pub first_tree_in_volume : (image : List ℕ) (size : ℕ) (files : List FileEntry) → result_of image (first_files size) ≡ Ok files → AreInVolumes (whole_volume size ∷ []) files
 first_tree_in_volume image size files gives =
     let found = first_files_give image size files gives in
     let P : List FileEntry → Type 0 = λ list. AreInVolumes (whole_volume size ∷ []) list in
     subst P (sym found.whole) (first_files_in_volume size found.superblock found.root found.entries found.others (whole_volume size ∷ []) refl found.good_files)
 
 -- and are whole
-pub first_tree_whole : (image : List ℕ) (size : ℕ) (files : List FileEntry) → run image (first_files size) ≡ Ok files → All IsWhole files
+pub first_tree_whole : (image : List ℕ) (size : ℕ) (files : List FileEntry) → result_of image (first_files size) ≡ Ok files → All IsWhole files
 first_tree_whole image size files gives =
     let found = first_files_give image size files gives in
     let P : List FileEntry → Type 0 = λ list. All IsWhole list in

@@ -4,7 +4,7 @@ use Rattle.std.specs.List.{list_all}
 use Rattle.std.proofs.Common.{ap, ◌∙◌, arith}
 use Rattle.std.proofs.lemmas.List.Elements.{All-cons, All-nil}
 use Rattle.range_defs.specs.Places.{covers, longest_ranges}
-use Rattle.image_defs.specs.Ask.{run, visits, each}
+use Rattle.image_defs.specs.Ask.{result_of, visits, each}
 use Rattle.image_defs.specs.Runs.{with_value}
 use Rattle.rx_tree.specs.Within.{AreRangesWithin}
 use Rattle.rx_tree.specs.declared.file.FileEntry.{FileEntry}
@@ -32,14 +32,14 @@ probes_within size long =
 pub record IsFound (image : List ℕ) (size : ℕ) (superblock : Superblock) (root : Inode) (entries : List Entry) (files : List FileEntry) : Type 0 where
   pub volume : IsVolume image size superblock
   pub has_root : is_first_inode size superblock 2 ≡ true
-  pub read_root : run image (first_root size superblock) ≡ Ok root
-  pub read_entries : run image (first_entries superblock root) ≡ Ok entries
+  pub read_root : result_of image (first_root size superblock) ≡ Ok root
+  pub read_entries : result_of image (first_entries superblock root) ≡ Ok entries
   pub good_entries : list_all is_first_entry entries ≡ true
-  pub read_files : run image (each (first_file size superblock entries) (named_inodes entries)) ≡ Ok files
+  pub read_files : result_of image (each (first_file size superblock entries) (named_inodes entries)) ≡ Ok files
 
 -- then these are the files
 pub found_files : (image : List ℕ) (size : ℕ) (superblock : Superblock) (root : Inode) (entries : List Entry) (files : List FileEntry) → IsFound image size superblock root entries files
-    → run image (first_files size) ≡ Ok (root_file superblock root ∷ files)
+    → result_of image (first_files size) ≡ Ok (root_file superblock root ∷ files)
 found_files image size superblock root entries files found =
     run_first_files image size superblock found.volume.long found.volume.kind found.volume.read_superblock
     ∙ run_files_below image size superblock root entries files found.read_root found.read_entries found.good_entries found.read_files
@@ -64,48 +64,48 @@ pub found_tree : (image : List ℕ) (size : ℕ) (superblock : Superblock) (root
     → first_tree image ≡ Ok (tree_of size (longest_ranges (covers (first_ranges superblock root (named_inodes entries))) 0 size) (root_file superblock root ∷ files))
 unfolding first_tree guard_of
 found_tree image size superblock root entries files same found =
-    ap (λ len. with_value (tree_of len (longest_ranges (covers (visits image (first_files len))) 0 len)) (run image (first_files len))) same
-    ∙ ap (λ ranges. with_value (tree_of size (longest_ranges (covers ranges) 0 size)) (run image (first_files size))) (found_ranges image size superblock root entries files found)
+    ap (λ len. with_value (tree_of len (longest_ranges (covers (visits image (first_files len))) 0 len)) (result_of image (first_files len))) same
+    ∙ ap (λ ranges. with_value (tree_of size (longest_ranges (covers ranges) 0 size)) (result_of image (first_files size))) (found_ranges image size superblock root entries files found)
     ∙ ap (λ all. with_value (tree_of size (longest_ranges (covers (first_ranges superblock root (named_inodes entries))) 0 size)) all) (found_files image size superblock root entries files found)
 
 -- where there are no files of the first form there is no tree
-pub no_tree : (image : List ℕ) (size : ℕ) → length image ≡ size → run image (first_files size) ≡ Err NotFirstForm → first_tree image ≡ Err NotFirstForm
+pub no_tree : (image : List ℕ) (size : ℕ) → length image ≡ size → result_of image (first_files size) ≡ Err NotFirstForm → first_tree image ≡ Err NotFirstForm
 unfolding first_tree
 no_tree image size same none =
-    ap (λ len. with_value (tree_of (length image) (guard_of image)) (run image (first_files len))) same
+    ap (λ len. with_value (tree_of (length image) (guard_of image)) (result_of image (first_files len))) same
     ∙ ap (λ files. with_value (tree_of (length image) (guard_of image)) files) none
 
 -- a volume without files of the first form has no tree
-no_files_tree : (image : List ℕ) (size : ℕ) (superblock : Superblock) → length image ≡ size → IsVolume image size superblock → run image (files_below size superblock) ≡ Err NotFirstForm → first_tree image ≡ Err NotFirstForm
+no_files_tree : (image : List ℕ) (size : ℕ) (superblock : Superblock) → length image ≡ size → IsVolume image size superblock → result_of image (files_below size superblock) ≡ Err NotFirstForm → first_tree image ≡ Err NotFirstForm
 no_files_tree image size superblock same volume none =
     no_tree image size same (run_first_files image size superblock volume.long volume.kind volume.read_superblock ∙ none)
 
 pub no_length_tree : (image : List ℕ) (size : ℕ) → length image ≡ size → is_first_length size ≡ false → first_tree image ≡ Err NotFirstForm
 no_length_tree image size same bad = no_tree image size same (run_first_files_length image size bad)
 
-pub no_kind_tree : (image : List ℕ) (size : ℕ) → length image ≡ size → is_first_length size ≡ true → run image first_kind ≡ Err NotFirstForm → first_tree image ≡ Err NotFirstForm
+pub no_kind_tree : (image : List ℕ) (size : ℕ) → length image ≡ size → is_first_length size ≡ true → result_of image first_kind ≡ Err NotFirstForm → first_tree image ≡ Err NotFirstForm
 no_kind_tree image size same long bad = no_tree image size same (run_first_files_kind image size long bad)
 
-pub no_superblock_tree : (image : List ℕ) (size : ℕ) → length image ≡ size → is_first_length size ≡ true → run image first_kind ≡ Ok tt → run image first_superblock ≡ Err NotFirstForm
+pub no_superblock_tree : (image : List ℕ) (size : ℕ) → length image ≡ size → is_first_length size ≡ true → result_of image first_kind ≡ Ok tt → result_of image first_superblock ≡ Err NotFirstForm
     → first_tree image ≡ Err NotFirstForm
 no_superblock_tree image size same long kind none = no_tree image size same (run_first_files_no_superblock image size long kind none)
 
-pub no_root_tree : (image : List ℕ) (size : ℕ) (superblock : Superblock) → length image ≡ size → IsVolume image size superblock → run image (first_root size superblock) ≡ Err NotFirstForm
+pub no_root_tree : (image : List ℕ) (size : ℕ) (superblock : Superblock) → length image ≡ size → IsVolume image size superblock → result_of image (first_root size superblock) ≡ Err NotFirstForm
     → first_tree image ≡ Err NotFirstForm
 no_root_tree image size superblock same volume none = no_files_tree image size superblock same volume (run_files_below_no_root image size superblock none)
 
-pub no_entries_tree : (image : List ℕ) (size : ℕ) (superblock : Superblock) (root : Inode) → length image ≡ size → IsVolume image size superblock → run image (first_root size superblock) ≡ Ok root
-    → run image (first_entries superblock root) ≡ Err NotFirstForm → first_tree image ≡ Err NotFirstForm
+pub no_entries_tree : (image : List ℕ) (size : ℕ) (superblock : Superblock) (root : Inode) → length image ≡ size → IsVolume image size superblock → result_of image (first_root size superblock) ≡ Ok root
+    → result_of image (first_entries superblock root) ≡ Err NotFirstForm → first_tree image ≡ Err NotFirstForm
 no_entries_tree image size superblock root same volume is none =
     no_files_tree image size superblock same volume (run_files_below_no_entries image size superblock root is none)
 
 pub bad_entry_tree : (image : List ℕ) (size : ℕ) (superblock : Superblock) (root : Inode) (entries : List Entry) → length image ≡ size → IsVolume image size superblock
-    → run image (first_root size superblock) ≡ Ok root → run image (first_entries superblock root) ≡ Ok entries → list_all is_first_entry entries ≡ false → first_tree image ≡ Err NotFirstForm
+    → result_of image (first_root size superblock) ≡ Ok root → result_of image (first_entries superblock root) ≡ Ok entries → list_all is_first_entry entries ≡ false → first_tree image ≡ Err NotFirstForm
 bad_entry_tree image size superblock root entries same volume is listing bad =
     no_files_tree image size superblock same volume (run_files_below_bad_entry image size superblock root entries is listing bad)
 
 pub no_file_tree : (image : List ℕ) (size : ℕ) (superblock : Superblock) (root : Inode) (entries : List Entry) → length image ≡ size → IsVolume image size superblock
-    → run image (first_root size superblock) ≡ Ok root → run image (first_entries superblock root) ≡ Ok entries → list_all is_first_entry entries ≡ true
-    → run image (each (first_file size superblock entries) (named_inodes entries)) ≡ Err NotFirstForm → first_tree image ≡ Err NotFirstForm
+    → result_of image (first_root size superblock) ≡ Ok root → result_of image (first_entries superblock root) ≡ Ok entries → list_all is_first_entry entries ≡ true
+    → result_of image (each (first_file size superblock entries) (named_inodes entries)) ≡ Err NotFirstForm → first_tree image ≡ Err NotFirstForm
 no_file_tree image size superblock root entries same volume is listing named none =
     no_files_tree image size superblock same volume (run_files_below_no_file image size superblock root entries is listing named none)

@@ -15,7 +15,7 @@ use Rattle.std.proofs.lemmas.List.{take_all, take_more}
 use Rattle.std.proofs.lemmas.List.Elements.{All-cons, All-nil, All-append}
 use Rattle.order_defs.proofs.DistinctLaws.{sorted_names_law}
 use Rattle.range_defs.specs.declared.Range.{Range}
-use Rattle.rx_tree.specs.FoundPart.{FoundPart}
+use Rattle.rx_tree.specs.PartValue.{PartValue}
 use Rattle.rx_ranges.specs.Path.{is_printed, IsPath}
 use Rattle.rx_tree.specs.Order.{StandsBeforeAll, HaveRisingIds, AreInVolumes, has_number}
 use Rattle.rx_tree.specs.PartOrder.{ArePartsSorted}
@@ -80,7 +80,7 @@ paths_of_other (first ∷ entries) entry number other = either (first.inode == n
     either false rest = rest
 
 -- the file of these names and this content
-pub named_file_is : (superblock : Superblock) (entries : List Entry) (number : ℕ) (inode : Inode) (names : List (List ℕ)) (parts : List FoundPart)
+pub named_file_is : (superblock : Superblock) (entries : List Entry) (number : ℕ) (inode : Inode) (names : List (List ℕ)) (parts : List PartValue)
     → names ≡ names_of entries number → parts ≡ content_of superblock inode ∷ []
     → record { id = record { volume = 0; number = number }; kind = File; names = names; parts = parts } ≡ named_file superblock entries number inode
 named_file_is superblock entries number inode names parts same_names same_parts = rw (same_names, same_parts) refl
@@ -183,7 +183,7 @@ pub root_names_are_paths : All IsPath (root_path ∷ [])
 root_names_are_paths = All-cons IsPath root_path [] (record { rooted = refl; printed = refl; short = lit≤ tt }) (All-nil IsPath)
 
 -- one part is in order
-pub one_part_sorted : (part : FoundPart) → ArePartsSorted (part ∷ [])
+pub one_part_sorted : (part : PartValue) → ArePartsSorted (part ∷ [])
 one_part_sorted part = λ k d low high. absurd (omega (arith, high))
 
 -- one name is sorted

@@ -5,7 +5,7 @@ use Rattle.std.proofs.Common.{ap, sym, ◌∙◌, arith, lit<}
 use Rattle.std.proofs.lemmas.Bool.Decides.{nat_tests}
 use Rattle.range_defs.specs.declared.Range.{Range}
 use Rattle.range_defs.specs.Places.{in_range, covers, IsRangeList}
-use Rattle.image_defs.specs.Ask.{run, visits}
+use Rattle.image_defs.specs.Ask.{result_of, visits}
 use Rattle.image_defs.specs.Runs.{with_value}
 use Rattle.volume_defs.specs.FirstForm.{first_files}
 use Rattle.volume_defs.specs.FirstTree.{guard_of, tree_of, first_tree}
@@ -55,6 +55,6 @@ guard_t =
 pub tree_t : first_tree image_t ≡ Ok (tree_of 262144 guard_ranges_t files_t)
 unfolding first_tree
 tree_t =
-    ap (λ size. with_value (tree_of size (guard_of image_t)) (run image_t (first_files size))) length_t
-    ∙ ap (λ guard. with_value (tree_of 262144 guard) (run image_t (first_files 262144))) guard_t
+    ap (λ size. with_value (tree_of size (guard_of image_t)) (result_of image_t (first_files size))) length_t
+    ∙ ap (λ guard. with_value (tree_of 262144 guard) (result_of image_t (first_files 262144))) guard_t
     ∙ ap (λ files. with_value (tree_of 262144 guard_ranges_t) files) run_t

@@ -2,7 +2,7 @@
 use Rattle.std.specs.Prelude.{◌++◌, ◌≡◌, List, [], ◌∷◌, slice_set, Ok, Err, refl}
 use Rattle.std.specs.Int.Count.{ones}
 use Rattle.bytes_defs.specs.Bytes.{part}
-use Rattle.image_defs.specs.Ask.{run, visits}
+use Rattle.image_defs.specs.Ask.{result_of, visits}
 use Rattle.bytes_defs.specs.Numbers.{number_at, signed_at}
 use Rattle.rx_ranges.specs.declared.pieces.PieceKind.TheVariants.{Disk}
 use Rattle.rx_tree.specs.declared.file.FileEntry.{FileEntry}
@@ -26,7 +26,7 @@ files_of_three =
     ∷ []
 
 -- the three files are found
-pub run_three : run image_of_three (first_files 262144) ≡ Ok files_of_three
+pub run_three : result_of image_of_three (first_files 262144) ≡ Ok files_of_three
 unfolding image_of_three part number_at signed_at superblock_of wrong_field inode_place inode_of entries_from entries_within is_entry block_place pieces_within block_pieces content_pieces content_slack content_of sorted_by_order distinct kind_of kind_behind_ntfs kind_behind_hfs kind_behind_ufs1 first_kind first_files files_below first_file first_entries first_root first_inode first_superblock is_first_superblock is_first_inode has_block has_blocks is_first_root is_first_entry is_first_file is_block_size is_fragment_size is_fragment_count is_inode_count ones
 run_three = refl
 
@@ -43,12 +43,12 @@ files_of_two_names =
     ∷ []
 
 -- it is found once
-pub run_two_names : run image_of_two_names (first_files 262144) ≡ Ok files_of_two_names
+pub run_two_names : result_of image_of_two_names (first_files 262144) ≡ Ok files_of_two_names
 unfolding image_of_two_names part number_at signed_at superblock_of wrong_field inode_place inode_of entries_from entries_within is_entry block_place pieces_within block_pieces content_pieces content_slack content_of sorted_by_order distinct kind_of kind_behind_ntfs kind_behind_hfs kind_behind_ufs1 first_kind first_files files_below first_file first_entries first_root first_inode first_superblock is_first_superblock is_first_inode has_block has_blocks is_first_root is_first_entry is_first_file is_block_size is_fragment_size is_fragment_count is_inode_count ones
 run_two_names = refl
 
 -- its names are sorted
-pub run_two_names_swapped : run image_of_two_names_swapped (first_files 262144) ≡ Ok files_of_two_names
+pub run_two_names_swapped : result_of image_of_two_names_swapped (first_files 262144) ≡ Ok files_of_two_names
 unfolding image_of_two_names_swapped part number_at signed_at superblock_of wrong_field inode_place inode_of entries_from entries_within is_entry block_place pieces_within block_pieces content_pieces content_slack content_of sorted_by_order distinct kind_of kind_behind_ntfs kind_behind_hfs kind_behind_ufs1 first_kind first_files files_below first_file first_entries first_root first_inode first_superblock is_first_superblock is_first_inode has_block has_blocks is_first_root is_first_entry is_first_file is_block_size is_fragment_size is_fragment_count is_inode_count ones
 run_two_names_swapped = refl
 
@@ -65,36 +65,36 @@ files_of_blocks =
     ∷ []
 
 -- a file of three blocks
-pub run_blocks : run image_of_blocks (first_files 262144) ≡ Ok files_of_blocks
+pub run_blocks : result_of image_of_blocks (first_files 262144) ≡ Ok files_of_blocks
 unfolding image_of_blocks part number_at signed_at superblock_of wrong_field inode_place inode_of entries_from entries_within is_entry block_place pieces_within block_pieces content_pieces content_slack content_of sorted_by_order distinct kind_of kind_behind_ntfs kind_behind_hfs kind_behind_ufs1 first_kind first_files files_below first_file first_entries first_root first_inode first_superblock is_first_superblock is_first_inode has_block has_blocks is_first_root is_first_entry is_first_file is_block_size is_fragment_size is_fragment_count is_inode_count ones
 run_blocks = refl
 
 -- where the pointer of its third block is 0, the image has not the first form
-pub run_hole : run (slice_set image_of_blocks 74624 0) (first_files 262144) ≡ Err NotFirstForm
+pub run_hole : result_of (slice_set image_of_blocks 74624 0) (first_files 262144) ≡ Err NotFirstForm
 unfolding image_of_blocks part number_at signed_at superblock_of wrong_field inode_place inode_of entries_from entries_within is_entry block_place pieces_within block_pieces content_pieces content_slack content_of sorted_by_order distinct kind_of kind_behind_ntfs kind_behind_hfs kind_behind_ufs1 first_kind first_files files_below first_file first_entries first_root first_inode first_superblock is_first_superblock is_first_inode has_block has_blocks is_first_root is_first_entry is_first_file is_block_size is_fragment_size is_fragment_count is_inode_count ones
 run_hole = refl
 
 -- nor where that block passes the end of the image
-pub run_past_end : run (slice_set image_of_blocks 74624 64) (first_files 262144) ≡ Err NotFirstForm
+pub run_past_end : result_of (slice_set image_of_blocks 74624 64) (first_files 262144) ≡ Err NotFirstForm
 unfolding image_of_blocks part number_at signed_at superblock_of wrong_field inode_place inode_of entries_from entries_within is_entry block_place pieces_within block_pieces content_pieces content_slack content_of sorted_by_order distinct kind_of kind_behind_ntfs kind_behind_hfs kind_behind_ufs1 first_kind first_files files_below first_file first_entries first_root first_inode first_superblock is_first_superblock is_first_inode has_block has_blocks is_first_root is_first_entry is_first_file is_block_size is_fragment_size is_fragment_count is_inode_count ones
 run_past_end = refl
 
 -- a content of whole blocks has no slack
-pub run_whole_blocks : run (slice_set image_of_blocks 74512 0) (first_files 262144) ≡ Ok (found_root ∷ found_file 3 ((47 ∷ 97 ∷ []) ∷ []) 8192 (record { from = 0; len = 8192; kind = Disk; at = 86016 } ∷ []) [] ∷ [])
+pub run_whole_blocks : result_of (slice_set image_of_blocks 74512 0) (first_files 262144) ≡ Ok (found_root ∷ found_file 3 ((47 ∷ 97 ∷ []) ∷ []) 8192 (record { from = 0; len = 8192; kind = Disk; at = 86016 } ∷ []) [] ∷ [])
 unfolding image_of_blocks part number_at signed_at superblock_of wrong_field inode_place inode_of entries_from entries_within is_entry block_place pieces_within block_pieces content_pieces content_slack content_of sorted_by_order distinct kind_of kind_behind_ntfs kind_behind_hfs kind_behind_ufs1 first_kind first_files files_below first_file first_entries first_root first_inode first_superblock is_first_superblock is_first_inode has_block has_blocks is_first_root is_first_entry is_first_file is_block_size is_fragment_size is_fragment_count is_inode_count ones
 run_whole_blocks = refl
 
 -- an empty file has no piece, and its pointers count for nothing
-pub run_empty : run (slice_set (slice_set (slice_set image_of_blocks 74512 0) 74513 0) 74608 0) (first_files 262144) ≡ Ok (found_root ∷ found_file 3 ((47 ∷ 97 ∷ []) ∷ []) 0 [] [] ∷ [])
+pub run_empty : result_of (slice_set (slice_set (slice_set image_of_blocks 74512 0) 74513 0) 74608 0) (first_files 262144) ≡ Ok (found_root ∷ found_file 3 ((47 ∷ 97 ∷ []) ∷ []) 0 [] [] ∷ [])
 unfolding image_of_blocks part number_at signed_at superblock_of wrong_field inode_place inode_of entries_from entries_within is_entry block_place pieces_within block_pieces content_pieces content_slack content_of sorted_by_order distinct kind_of kind_behind_ntfs kind_behind_hfs kind_behind_ufs1 first_kind first_files files_below first_file first_entries first_root first_inode first_superblock is_first_superblock is_first_inode has_block has_blocks is_first_root is_first_entry is_first_file is_block_size is_fragment_size is_fragment_count is_inode_count ones
 run_empty = refl
 
 -- a file of more than twelve blocks has not the first form
-pub run_thirteen : run (slice_set image_of_blocks 74513 192) (first_files 262144) ≡ Err NotFirstForm
+pub run_thirteen : result_of (slice_set image_of_blocks 74513 192) (first_files 262144) ≡ Err NotFirstForm
 unfolding image_of_blocks part number_at signed_at superblock_of wrong_field inode_place inode_of entries_from entries_within is_entry block_place pieces_within block_pieces content_pieces content_slack content_of sorted_by_order distinct kind_of kind_behind_ntfs kind_behind_hfs kind_behind_ufs1 first_kind first_files files_below first_file first_entries first_root first_inode first_superblock is_first_superblock is_first_inode has_block has_blocks is_first_root is_first_entry is_first_file is_block_size is_fragment_size is_fragment_count is_inode_count ones
 run_thirteen = refl
 
 -- a root without files is found alone
-pub run_none : run image_of_none (first_files 262144) ≡ Ok (found_root ∷ [])
+pub run_none : result_of image_of_none (first_files 262144) ≡ Ok (found_root ∷ [])
 unfolding image_of_none part number_at signed_at superblock_of wrong_field inode_place inode_of entries_from entries_within is_entry block_place pieces_within block_pieces content_pieces content_slack content_of sorted_by_order distinct kind_of kind_behind_ntfs kind_behind_hfs kind_behind_ufs1 first_kind first_files files_below first_file first_entries first_root first_inode first_superblock is_first_superblock is_first_inode has_block has_blocks is_first_root is_first_entry is_first_file is_block_size is_fragment_size is_fragment_count is_inode_count ones
 run_none = refl

@@ -2,7 +2,7 @@
 use Rattle.std.specs.Prelude.{◌≡◌, ℕ, false, List, [], ◌∷◌, length, take, slice_set, Some, None, Ok, Err, refl}
 use Rattle.std.specs.Int.Count.{ones}
 use Rattle.bytes_defs.specs.Bytes.{part}
-use Rattle.image_defs.specs.Ask.{run, visits}
+use Rattle.image_defs.specs.Ask.{result_of, visits}
 use Rattle.bytes_defs.specs.Numbers.{number_at, signed_at}
 use Rattle.range_defs.specs.declared.Range.{Range}
 use Rattle.rx_ranges.specs.declared.pieces.Piece.{Piece}
@@ -24,7 +24,7 @@ pub length_t : length image_t ≡ 262144
 unfolding image_t
 length_t = refl
 
-kind_t : run {E = FirstFault} image_t kind_of ≡ Ok (Some Ufs2)
+kind_t : result_of {E = FirstFault} image_t kind_of ≡ Ok (Some Ufs2)
 unfolding image_t kind_of kind_behind_ntfs kind_behind_hfs kind_behind_ufs1 part
 kind_t = refl
 
@@ -42,7 +42,7 @@ ufs1_places_t : visits (zeros_but 0 10000 ((9564, 0x54 ∷ 0x19 ∷ 0x01 ∷ 0x0
 unfolding kind_of kind_behind_ntfs kind_behind_hfs part
 ufs1_places_t = refl
 
-no_kind_t : run {E = FirstFault} (zeros_but 0 2048 []) kind_of ≡ Ok None
+no_kind_t : result_of {E = FirstFault} (zeros_but 0 2048 []) kind_of ≡ Ok None
 unfolding kind_of kind_behind_ntfs kind_behind_hfs kind_behind_ufs1 part
 no_kind_t = refl
 
@@ -105,7 +105,7 @@ files_t =
     ∷ found_file 3 ((47 ∷ 97 ∷ []) ∷ []) 3 (record { from = 0; len = 3; kind = Disk; at = 86016 } ∷ []) (record { at = 86019; len = 4093 } ∷ [])
     ∷ []
 
-pub run_t : run image_t (first_files 262144) ≡ Ok files_t
+pub run_t : result_of image_t (first_files 262144) ≡ Ok files_t
 unfolding image_t part number_at signed_at superblock_of wrong_field inode_place inode_of entries_from entries_within is_entry block_place pieces_within block_pieces content_pieces content_slack content_of sorted_by_order distinct kind_of kind_behind_ntfs kind_behind_hfs kind_behind_ufs1 first_kind first_files files_below first_file first_entries first_root first_inode first_superblock is_first_superblock is_first_inode has_block has_blocks is_first_root is_first_entry is_first_file is_block_size is_fragment_size is_fragment_count is_inode_count ones
 run_t = refl
 
@@ -128,26 +128,26 @@ unfolding image_t part number_at signed_at superblock_of wrong_field inode_place
 visits_t = refl
 
 -- without its last byte, the file's block isn't whole
-cut_block_t : run (take 90111 image_t) (first_files 90111) ≡ Err NotFirstForm
+cut_block_t : result_of (take 90111 image_t) (first_files 90111) ≡ Err NotFirstForm
 unfolding image_t part number_at signed_at superblock_of wrong_field inode_place inode_of entries_from entries_within is_entry block_place pieces_within block_pieces content_pieces content_slack content_of sorted_by_order distinct kind_of kind_behind_ntfs kind_behind_hfs kind_behind_ufs1 first_kind first_files files_below first_file first_entries first_root first_inode first_superblock is_first_superblock is_first_inode has_block has_blocks is_first_root is_first_entry is_first_file is_block_size is_fragment_size is_fragment_count is_inode_count ones
 cut_block_t = refl
 
 -- cut inside what the kind rests on, or empty
-cut_t : run (take 1000 image_t) (first_files 1000) ≡ Err NotFirstForm
+cut_t : result_of (take 1000 image_t) (first_files 1000) ≡ Err NotFirstForm
 unfolding image_t part number_at signed_at superblock_of wrong_field inode_place inode_of entries_from entries_within is_entry block_place pieces_within block_pieces content_pieces content_slack content_of sorted_by_order distinct kind_of kind_behind_ntfs kind_behind_hfs kind_behind_ufs1 first_kind first_files files_below first_file first_entries first_root first_inode first_superblock is_first_superblock is_first_inode has_block has_blocks is_first_root is_first_entry is_first_file is_block_size is_fragment_size is_fragment_count is_inode_count ones
 cut_t = refl
 
-empty_t : run [] (first_files 0) ≡ Err NotFirstForm
+empty_t : result_of [] (first_files 0) ≡ Err NotFirstForm
 unfolding image_t part number_at signed_at superblock_of wrong_field inode_place inode_of entries_from entries_within is_entry block_place pieces_within block_pieces content_pieces content_slack content_of sorted_by_order distinct kind_of kind_behind_ntfs kind_behind_hfs kind_behind_ufs1 first_kind first_files files_below first_file first_entries first_root first_inode first_superblock is_first_superblock is_first_inode has_block has_blocks is_first_root is_first_entry is_first_file is_block_size is_fragment_size is_fragment_count is_inode_count ones
 empty_t = refl
 
 -- the first pointer of inode 3 leads to the block at the image's end
-pointer_t : run (slice_set image_t 74608 64) (first_files 262144) ≡ Err NotFirstForm
+pointer_t : result_of (slice_set image_t 74608 64) (first_files 262144) ≡ Err NotFirstForm
 unfolding image_t part number_at signed_at superblock_of wrong_field inode_place inode_of entries_from entries_within is_entry block_place pieces_within block_pieces content_pieces content_slack content_of sorted_by_order distinct kind_of kind_behind_ntfs kind_behind_hfs kind_behind_ufs1 first_kind first_files files_below first_file first_entries first_root first_inode first_superblock is_first_superblock is_first_inode has_block has_blocks is_first_root is_first_entry is_first_file is_block_size is_fragment_size is_fragment_count is_inode_count ones
 pointer_t = refl
 
 -- the superblock tells of blocks without a byte
-block_size_t : run (slice_set image_t 65585 0) (first_files 262144) ≡ Err NotFirstForm
+block_size_t : result_of (slice_set image_t 65585 0) (first_files 262144) ≡ Err NotFirstForm
 unfolding image_t part number_at signed_at superblock_of wrong_field inode_place inode_of entries_from entries_within is_entry block_place pieces_within block_pieces content_pieces content_slack content_of sorted_by_order distinct kind_of kind_behind_ntfs kind_behind_hfs kind_behind_ufs1 first_kind first_files files_below first_file first_entries first_root first_inode first_superblock is_first_superblock is_first_inode has_block has_blocks is_first_root is_first_entry is_first_file is_block_size is_fragment_size is_fragment_count is_inode_count ones
 block_size_t = refl
 

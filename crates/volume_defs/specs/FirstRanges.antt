@@ -1,7 +1,7 @@
 -- The ranges of an image of the first form at which one looks for its files, and its tree where they are known.
 use Rattle.std.specs.Prelude.{◌≡◌, ℕ, ◌+◌, true, Ok, List, ◌∷◌, ◌++◌, map}
 use Rattle.range_defs.specs.declared.Range.{Range}
-use Rattle.image_defs.specs.Ask.{run}
+use Rattle.image_defs.specs.Ask.{result_of}
 use Rattle.ufs_defs.specs.Blocks.{block_place}
 use Rattle.ufs_defs.specs.declared.superblock.Superblock.{Superblock}
 use Rattle.ufs_defs.specs.declared.inode.Inode.{Inode}
@@ -20,5 +20,5 @@ first_ranges superblock root numbers =
 -- an image that is a UFS2 with this superblock
 pub record IsVolume (image : List ℕ) (size : ℕ) (superblock : Superblock) : Type 0 where
   pub long : is_first_length size ≡ true
-  pub kind : run image first_kind ≡ Ok tt
-  pub read_superblock : run image first_superblock ≡ Ok superblock
+  pub kind : result_of image first_kind ≡ Ok tt
+  pub read_superblock : result_of image first_superblock ≡ Ok superblock

@@ -4,7 +4,7 @@ use Rattle.std.specs.Prelude.{◌≡◌, ℕ, true, List, [], ◌∷◌, IsSorte
 use Rattle.std.specs.List.{All}
 use Rattle.std.specs.Cmp.Lexicographic.{slice_cmp}
 use Rattle.std.specs.Ordering.{nat_cmp}
-use Rattle.rx_tree.specs.FoundPart.{FoundPart}
+use Rattle.rx_tree.specs.PartValue.{PartValue}
 use Rattle.rx_ranges.specs.Path.{IsPath}
 use Rattle.rx_tree.specs.PartOrder.{ArePartsSorted}
 use Rattle.rx_tree.specs.PartPieces.{AreOfPart, ArePlain}
@@ -28,7 +28,7 @@ AreFilesOf size superblock entries [] (file ∷ files) = ⊥
 AreFilesOf size superblock entries (number ∷ numbers) [] = ⊥
 AreFilesOf size superblock entries (number ∷ numbers) (file ∷ files) = IsFileOf size superblock entries number file × AreFilesOf size superblock entries numbers files
 
-abbrev pub IsCovered : FoundPart → Type 0
+abbrev pub IsCovered : PartValue → Type 0
 IsCovered part = AreOfPart part.unreadable part.size part.pieces part.slack × ArePlain part.pieces
 
 pub record IsWhole (file : FileEntry) : Type 0 where

@@ -5,7 +5,7 @@ use Rattle.rx_ranges.specs.declared.pieces.Piece.{Piece}
 use Rattle.rx_tree.specs.declared.part.Role.{Role}
 
 -- a part of a file
-pub record FoundPart : Type 0 where
+pub record PartValue : Type 0 where
   pub role : Role
   pub name : List ℕ
   pub size : ℕ

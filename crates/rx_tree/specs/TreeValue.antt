@@ -5,7 +5,7 @@ use Rattle.rx_tree.specs.declared.file.FileEntry.{FileEntry}
 use Rattle.rx_tree.specs.declared.volume.Volume.{Volume}
 
 -- what an image says: its length, its volumes, the bytes of partitions that aren't read, its files, and the guard
-pub record FoundTree : Type 0 where
+pub record TreeValue : Type 0 where
   pub image_len : ℕ
   pub volumes : List Volume
   pub unread : List Range
