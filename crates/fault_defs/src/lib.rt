@@ -1,4 +1,11 @@
-//! What may be wrong with an image: sorts of damage, what isn't supported, and bounds that may be passed.
+//! What may be wrong with an image: sorts of damage, values that aren't supported, and limits that may be passed.
+//!
+//! The definitions of all file systems stop with one type, `Refusal`: another file system (`NotThis`), a clause of the format
+//! that is false at a place (`Damaged`), a value that isn't read (`Unsupported`), or more of something than is counted
+//! (`Limit`). A place is a byte of the image, counted from 0; the number of a `Limit` is the limit that was passed.
+//!
+//!     // the superblock's block size, at byte 48 of it, isn't a power of two
+//!     Refusal::Damaged(Sort::SuperField, 65_536 + 48)
 #![tactic(auto)]
 
 /// The sorts of damage of an image. Each refusal names the place of one of these beside it.

@@ -8,7 +8,7 @@ ghost use Rattle.first_reader.specs.Gives.{GivesItems};
 
 use crate::fault::FirstReadFault;
 use bytes_defs::field::{u16_at, u32_at};
-use bytes_defs::order::Order::Little;
+use bytes_defs::Order::Little;
 use std::alloc::Global;
 use std::marker::Model;
 use ufs_defs::directory::is_entry;

@@ -1,4 +1,9 @@
 //! Reads an image of the first form.
+//!
+//! It reads the places of the magics, the superblock, the root's inode and block, and each file's inode once, and answers the tree
+//! that the definitions of `volume_defs` give for the image, or that the image has another form.
+//!
+//!     let tree = read_tree(alloc, &mut store)?;
 #![tactic(auto)]
 
 ghost use Rattle.std.specs.Prelude.{◌≡◌, ◌≤◌, true, length, IfErr, IfSome, IsErrOf, ◌≢◌, Err};
@@ -11,7 +16,7 @@ ghost use Rattle.first_reader.specs.Gives.{Gives, GivesTree, IsFirstCounted};
 
 mod content;
 mod directory;
-pub mod fault;
+mod fault;
 mod form;
 mod found;
 mod kind;

@@ -1,4 +1,12 @@
-//! How stored names, words and texts are printed, with laws of it on functions that do nothing; and hexadecimal digits.
+//! How stored names, words and texts are printed, and hexadecimal digits.
+//!
+//! A name is stored as bytes (UFS) or as 16-bit units (NTFS, HFS+). Printed, valid characters stay as they are; a backslash is
+//! doubled; control characters and a slash are `\xHH`, a byte at which no UTF-8 begins too; a lone surrogate, U+FFFE and U+FFFF
+//! are `\uHHHH`. Digits are upper case. Valid UTF-8 is that of the Unicode Standard, section 3.9.
+//!
+//!     the bytes 61 FF 5C 0A print as  a\xFF\\\x0A
+//!
+//! The promised laws: each stored name has a spelling of its own, and a printed name has no control character and no slash.
 #![tactic(auto)]
 
 ghost use Rattle.std.specs.Prelude.{◌≡◌, ◌<◌, ◌≤◌, ◌^◌, ◌++◌, [], ◌∷◌, false, ℕ, List, All, encode_utf8};

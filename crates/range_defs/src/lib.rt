@@ -1,4 +1,11 @@
 //! Places of an image: ranges of bytes, and claims of rules on them.
+//!
+//! A `Range` is `len` bytes from byte `at` on; a `Claim` is a range that a rule takes, with the byte that it fills in. The
+//! definitions speak of one byte at a time: whether ranges cover it (`covers`), and which rule and fill claims give it
+//! (`painted`: the least rule). A set of bytes has one canonical list, that of its longest ranges; so has a filling.
+//!
+//!     // bytes 86,016 to 86,018, which rule 1 fills with 0x58
+//!     let claim = Claim { range: Range { at: 86_016, len: 3 }, rule: 1, fill: 0x58 };
 #![tactic(auto)]
 
 /// The bytes of the longest image: 2^46.

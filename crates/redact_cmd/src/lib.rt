@@ -1,4 +1,10 @@
 //! The commands of the program: the words that name them, what each one does, and what it answers.
+//!
+//! `run` carries out the command of the words over a store, a source and a sink, and answers a `Status`; `write_status` writes
+//! the line that says it. The promise of the whole program is the contract of `run`.
+//!
+//!     let status = run(alloc, &words, &mut store, &mut rules, &mut out);
+//!     write_status(&status, &mut errors)?;
 #![tactic(auto)]
 
 mod commands;

@@ -1,4 +1,8 @@
 //! Reads the rule text.
+//!
+//! The text is read to its end. It is in the first form or in another one, which is told exactly where it is so.
+//!
+//!     let rules = read_rules(alloc, &mut source)?;
 #![tactic(auto)]
 
 ghost use Rattle.std.specs.Prelude.{◌≡◌, ◌⊎◌, [], Err, IfOk, IfSome, IsErrOf, OnOk};

@@ -1,4 +1,12 @@
 //! Fields of slices: a slice that is read at places, with None for a field that passes its end.
+//!
+//! A `View` lends a slice. Each number call answers the slice's number at that place, lowest or highest byte first as its name
+//! says, and None exactly where the field passes the slice's end.
+//!
+//!     let view = View::new(&[0x34, 0x12, 0xFF]);
+//!     view.u16_le(0)      // Some(0x1234)
+//!     view.u16_be(0)      // Some(0x3412)
+//!     view.u16_le(2)      // None
 #![tactic(auto)]
 
 ghost use Rattle.std.specs.Prelude.{◌≡◌, ◌+◌, ◌<◌, ◌≤◌, ◌↔◌, length, slice_index, IsSome, IfSome};
@@ -11,7 +19,7 @@ ghost use Rattle.bytes_defs.specs.Numbers.{little_at, little_signed_at, big_at};
 mod tests;
 
 use bytes_defs::field::{i32_at, i64_at, u16_at, u32_at, u64_at};
-use bytes_defs::order::Order::{Big, Little};
+use bytes_defs::Order::{Big, Little};
 use std::marker::Model;
 
 /// A slice of bytes whose fields are read at places. It lends the slice and copies nothing.

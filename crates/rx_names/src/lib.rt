@@ -1,15 +1,21 @@
 //! How stored names, words and texts are printed.
+//!
+//! `print_name` prints a stored name of bytes or of 16-bit units, `print_word` a word of the command line, and `xml_text` escapes
+//! a text for XML. What they print is defined in `name_defs`.
+//!
+//!     print_name(alloc, NameRef::Bytes(b"a\xFF"))?      // a\xFF: the byte isn't UTF-8
+//!     xml_text(alloc, "a<b")?                           // a&lt;b
 #![tactic(auto)]
 
 pub(crate) mod bytes;
 pub(crate) mod characters;
-pub mod name;
+mod name;
 pub(crate) mod pushing;
 #[cfg(test)]
 mod tests;
 pub(crate) mod units;
-pub mod word;
-pub mod xml;
+mod word;
+mod xml;
 
 pub use name::{NameRef, print_name};
 pub use rx_ranges::Text;

@@ -1,4 +1,9 @@
 //! Makes the plan of a tree and its rules.
+//!
+//! Each file is settled once, by the first rule that holds of it. The claims make the ranges of the plan, and the files make its
+//! listing. A plan that would fill a byte of the guard is refused with the least such byte and its rule.
+//!
+//!     let plan = make_plan(alloc, &mut store, &tree, &rules)?;
 #![tactic(auto)]
 
 ghost use Rattle.std.specs.Prelude.{◌≡◌, ◌&&◌, ℕ, Some, None, IfOk, IfSome, IsErrOf, OnOk, is_some};

@@ -1,4 +1,8 @@
 //! Writes the report of a plan.
+//!
+//! The report is written in pieces of some thousand bytes, in order. After a fault of the sink some first bytes of it were taken.
+//!
+//!     write_report(&mut sink, &plan, ReportState::Planned)?;
 #![tactic(auto)]
 
 ghost use Rattle.std.specs.Prelude.{◌≡◌, OnOk, OnErr};

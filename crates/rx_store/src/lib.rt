@@ -1,19 +1,26 @@
 //! The outside: a store with an image and a journal, a source of text, and a sink for it.
+//!
+//! `Store`, `Source` and `Sink` are what the program knows of the outside. Each call may fail, and each failure is counted. The
+//! stores in memory (`MemStore`, `MemSource`, `MemSink`) tell all that they hold, and fail exactly where they are told to; the
+//! edges (`FileStore`, `StdSource`, `StdSink`) stand over real files, readers and writers, and tell no content.
+//!
+//!     let mut store = MemStore::new(alloc, image, journal, room, changes, log)?;
+//!     store.fail_at(vec![in alloc; 3]?);      // its third call fails
 #![tactic(auto)]
 
 mod fault_counts;
-pub mod file_store;
-pub mod mem_sink;
-pub mod mem_source;
-pub mod mem_store;
+mod file_store;
+mod mem_sink;
+mod mem_source;
+mod mem_store;
 mod outside;
-pub mod read_fault;
-pub mod sink;
-pub mod source;
-pub mod std_sink;
-pub mod std_source;
-pub mod store;
-pub mod whole;
+mod read_fault;
+mod sink;
+mod source;
+mod std_sink;
+mod std_source;
+mod store;
+mod whole;
 
 pub use disk_defs::{Area, Fault};
 pub use fault_defs::{Bound, Sort, What};

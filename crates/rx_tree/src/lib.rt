@@ -1,11 +1,17 @@
 //! What a reader of an image finds: volumes, files, their names and parts, and the bytes that all this rests on.
+//!
+//! A `Tree` has the files of an image by rising id. A file has all its names, as printed paths sorted by their bytes, and its
+//! parts: runs of the image that hold its bytes (`Pieces`), and the slack. The types keep their order and their bounds as
+//! invariants, so whoever holds a tree knows that all of it lies in the image.
+//!
+//!     join_path(alloc, &folder, &name)?      // "/" and "a" give "/a", "/b" and "a" give "/b/a"
 #![tactic(auto)]
 
-pub mod file;
-pub mod names;
-pub mod part;
-pub mod tree;
-pub mod volume;
+mod file;
+mod names;
+mod part;
+mod tree;
+mod volume;
 
 pub use file::{FileEntry, FileId, Files, Kind};
 pub use names::{Names, PathFault, join_path};

@@ -5,7 +5,7 @@ ghost use Rattle.ufs_defs.specs.Inode.{inode_of, inode_fragment as inode_fragmen
 use crate::signed::non_negative;
 use crate::superblock::Superblock;
 use bytes_defs::field::{i64_at, u16_at, u32_at, u64_at};
-use bytes_defs::order::Order::Little;
+use bytes_defs::Order::Little;
 
 /// The fields of an inode that are read.
 #[derive(Clone, Copy, Debug, PartialEq, Eq)]

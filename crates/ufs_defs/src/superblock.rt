@@ -4,7 +4,7 @@ ghost use Rattle.ufs_defs.specs.Superblock.{is_block_size as is_block_size_by, i
 
 use crate::signed::non_negative;
 use bytes_defs::field::{i32_at, u32_at};
-use bytes_defs::order::Order::Little;
+use bytes_defs::Order::Little;
 
 /// The fields of the superblock that are read. FreeBSD's sys/ufs/ffs/fs.h names them, with `fs_` in front.
 #[derive(Clone, Copy, Debug, PartialEq, Eq)]
