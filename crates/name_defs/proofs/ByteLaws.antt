@@ -10,7 +10,7 @@ use Rattle.std.specs.Str.{is_utf8, chars, encode_utf8_all, all_scalars, StartsWi
 use Rattle.std.specs.Option.{option_map_or}
 use Rattle.std.proofs.Math.Utf8.{low_scalar}
 use Rattle.name_defs.specs.Items.{Item, Character, Byte, item_bytes, front_len, item_of_bytes, byte_items}
-use Rattle.name_defs.specs.WalkLaws.{Fronts}
+use Rattle.name_defs.proofs.WalkLaws.{Fronts}
 use Rattle.name_defs.proofs.WalkLaws.{items_past-front, items_past-restored, items_past-all, fronts_from}
 use Rattle.name_defs.proofs.SpellingLaws.{IsReadable}
 

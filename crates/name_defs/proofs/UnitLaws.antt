@@ -10,7 +10,7 @@ use Rattle.std.specs.Char.Escape.{encode_utf16}
 use Rattle.std.specs.Char.Utf16.{is_high_surrogate, is_low_surrogate, surrogate_pair_char}
 use Rattle.std.specs.List.{AllByRecursion}
 use Rattle.name_defs.specs.Items.{Item, Character, Surrogate, item_units, begins_pair, item_of_units, unit_items, items_past}
-use Rattle.name_defs.specs.WalkLaws.{Fronts}
+use Rattle.name_defs.proofs.WalkLaws.{Fronts}
 use Rattle.name_defs.proofs.WalkLaws.{items_past-front, items_past-restored, items_past-all, fronts_from}
 use Rattle.name_defs.proofs.SpellingLaws.{IsReadable}
 
