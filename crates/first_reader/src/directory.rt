@@ -7,8 +7,8 @@ ghost use Rattle.bytes_defs.specs.Bytes.{part};
 ghost use Rattle.first_reader.specs.Gives.{GivesItems};
 
 use crate::fault::FirstReadFault;
-use bytes_defs::field::{u16_at, u32_at};
 use bytes_defs::Order::Little;
+use bytes_defs::field::{u16_at, u32_at};
 use std::alloc::Global;
 use std::marker::Model;
 use ufs_defs::directory::is_entry;

@@ -41,10 +41,12 @@ module _ (size : ℕ) (found : FileRecord) (sound : IsSoundHeader size found.hea
   pub front_clear : (byte : ℕ) → byte < found.header.array + 2 → NoContentPlace found byte
   front_clear byte front content =
       omega (arith, front, content.2, stored_behind_number size found.header.array content.0 (content_behind size found.header found.attributes content.0 sound content.1))
+
   end_clear : (stride byte : ℕ) → 512 * stride + 510 ≤ byte → byte < 512 * stride + 510 + 2 → NoContentPlace found byte
   end_clear stride byte low high content =
       stored_at_no_end size found.header.array content.0 stride sound.short (content_behind size found.header found.attributes content.0 sound content.1)
       (omega (arith, low, content.2)) (omega (arith, high, content.2))
+
   attribute_clear : (range : Range) → Avoids found.header.first (contents found.attributes) range → AtPlaces (stored_at found.header.array) size (LiesIn (NoContentPlace found)) range
   attribute_clear range avoids i p low high inside is byte from to content =
       let lies = avoids i low high in

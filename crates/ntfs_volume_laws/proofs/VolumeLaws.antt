@@ -104,6 +104,7 @@ same_guarded image a b list first second boot gives also = by_form list.opened.a
         let short = check_gives image (nat_le stream.real 1048576) (Limit AttributeList 1048576) _ content gives in
         let bytes = bind_gives image (look_bytes (stream_place mft.boot stream) 0 stream.real) (λ bytes. Done (list_with mft stream bytes)) content short.1 in
         cc (bytes.2)
+
     by_form : (form : Form) → result_of image (list_by a list form) ≡ Ok first → result_of image (list_by b list form) ≡ Ok second → first.guarded ≡ second.guarded
     by_form (Resident range) gives also = cc
     by_form (NonResident header) gives also =
@@ -138,6 +139,7 @@ file_of_base image mft base option slot_is is_base gives =
     by_flag : (is : Bool) → is ≡ true → result_of image (file_by mft 0 base is) ≡ Ok option → (found : Assembled) × (result_of image (assembled mft 0 base) ≡ Ok found) × (result_of image (with_assembled mft 0 base found) ≡ Ok option)
     by_flag true is gives = bind_gives image (assembled mft 0 base) (with_assembled mft 0 base) option gives
     by_flag false is gives = absurd cc
+
     by_slot : (slot : Slot) → result_of image (slot_of mft 0) ≡ Ok slot → result_of image (file_in mft 0 slot) ≡ Ok option → (found : Assembled) × (result_of image (assembled mft 0 base) ≡ Ok found) × (result_of image (with_assembled mft 0 base found) ≡ Ok option)
     by_slot slot is gives =
         let same : slot ≡ Used base = cc in
@@ -171,6 +173,7 @@ module _ (image : List ℕ) (mft : Mft) (files : List FoundFile) (strides : mft.
     (held : (slot byte : ℕ) → is_content_place mft.boot.record_size files slot byte ≡ true → HoldsContent image mft slot byte) where
   abbrev Inside : Range → Type 0
   Inside = LiesIn (Guarded image mft files strides held)
+
   segment_looks : (base : FileRecord) (known : Option Mft) (entry : Entry) (own : Bool) (segment : Held) → HasBoot mft.boot known → ((before : Mft) → known ≡ Some before → Extends before mft)
       → result_of image (segment_in mft.boot base known entry own) ≡ Ok segment → LooksAt Inside image (segment_in mft.boot base known entry own)
   segment_looks base known entry true segment has extends gives = looks_given Inside image (named_in entry (attributes_in 0 base))
@@ -182,6 +185,7 @@ module _ (image : List ℕ) (mft : Mft) (files : List FoundFile) (strides : mft.
       subst (λ (boot : Boot). (entry.number + 1) * boot.record_size ≤ mapped boot before.content.runs) (sym has) (leb-true _ _ fits.0) in
       looks_check Inside image (nat_le ((entry.number + 1) * mft.boot.record_size) (mapped mft.boot before.content.runs)) (no_map mft.boot) _
       (λ _. named_looks image mft files strides held before 0 base entry segment (same_slots before mft grows) (mapped_same before mft entry.number grows maps) fits.1)
+
   segments_look : (base : FileRecord) (known : Option Mft) (entries : List Entry) → HasBoot mft.boot known → result_of image (segments_behind mft.boot base known entries) ≡ Ok (Some mft)
       → LooksAt Inside image (segments_behind mft.boot base known entries)
   unfolding segments_behind
@@ -194,6 +198,7 @@ module _ (image : List ℕ) (mft : Mft) (files : List FoundFile) (strides : mft.
       (looks_bind_ok Inside image (given (with_segment mft.boot known found.0)) _ found.1 (result_given image (with_segment mft.boot known found.0) ∙ found.3)
       (looks_given Inside image (with_segment mft.boot known found.0))
       (segments_look base (Some found.1) entries (segment_boot mft.boot known found.1 found.0 has found.3) found.4))
+
   all_segments_look : (base : FileRecord) (list : Option Held) → result_of image (all_segments mft.boot base list) ≡ Ok (Some mft)
       → ((one : Held) (content : ListContent) (byte : ℕ) → list ≡ Some one → result_of image (list_content (first_slot_alone mft.boot) one) ≡ Ok content → covers content.guarded byte ≡ true → Guarded image mft files strides held byte)
       → LooksAt Inside image (all_segments mft.boot base list)
@@ -207,6 +212,7 @@ module _ (image : List ℕ) (mft : Mft) (files : List FoundFile) (strides : mft.
       (let found = given_gives image (entries_of (first_slot_alone mft.boot) list content.0) _ (Some mft) content.2 in
       let same : found.0 ≡ entries = cc (found.1) in
       ap (λ entries. result_of image (segments_behind mft.boot base None (filter is_for_content entries))) (sym same) ∙ found.2)))
+
   mft_looks : result_of image (mft_of mft.boot) ≡ Ok mft
       → ((base : FileRecord) (list : Held) (content : ListContent) (byte : ℕ) → result_of image (slot_of mft 0) ≡ Ok (Used base) → (base.header.base == 0) ≡ true → list_of (attributes_in 0 base) ≡ Some list
       → result_of image (list_content (first_slot_alone mft.boot) list) ≡ Ok content → covers content.guarded byte ≡ true → Guarded image mft files strides held byte)

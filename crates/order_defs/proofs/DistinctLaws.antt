@@ -25,21 +25,26 @@ module _ {X : Type 0} (cmp : X → X → Ordering) where
   by_rank P Less front same behind first second third = first refl
   by_rank P Equal front same behind first second third = second refl
   by_rank P Greater front same behind first second third = third refl
+
   -- what holds of each item holds of the distinct ones
   pub distinct_all : (P : X → Type 0) (xs : List X) → All P xs → All P (distinct cmp xs)
   unfolding distinct
   distinct_all P [] all = All-nil P
   distinct_all P (x ∷ xs) all = All-insert_key cmp x P (distinct cmp xs) (distinct_all P xs (All-tail P x xs all)) (All-head P x xs all)
+
   abbrev has : X → List X → Bool
   has q xs = list_any (eq_by_cmp cmp q) xs
+
   equal_rank : (rank : Ordering) → is_eq rank ≡ true → rank ≡ Equal
   equal_rank Less is = absurd cc
   equal_rank Equal is = refl
   equal_rank Greater is = absurd cc
+
   module _ (o : IsTotalOrder cmp) where
     -- ---- they rise
     all_behind : (x y : X) (ys : List X) → cmp x y ≡ Less → All (λ z. cmp y z ≡ Less) ys → All (λ z. cmp x z ≡ Less) ys
     all_behind x y ys first = All-weaker (λ z. cmp y z ≡ Less) (λ z. cmp x z ≡ Less) (λ z behind. o.trans x y z first behind) ys
+
     inserted_sorted : (xs : List X) (x : X) → IsStrictlySortedBy cmp xs → IsStrictlySortedBy cmp (insert_key cmp xs x)
     unfolding IsStrictlySortedBy
     inserted_sorted [] x sorted = (tt, tt)
@@ -52,10 +57,12 @@ module _ {X : Type 0} (cmp : X → X → Ordering) where
           recursion_from_All (λ z. cmp y z ≡ Less) (insert_key cmp ys x) (All-insert_key cmp x (λ z. cmp y z ≡ Less) ys behind (o.antisymm y x ∙ ap ordering_reverse greater)),
           inserted_sorted ys x sorted.1,
         ))
+
     pub distinct_sorted : (xs : List X) → IsStrictlySortedBy cmp (distinct cmp xs)
     unfolding distinct IsStrictlySortedBy
     distinct_sorted [] = tt
     distinct_sorted (x ∷ xs) = inserted_sorted (distinct cmp xs) x (distinct_sorted xs)
+
     rise_in_order : (xs : List X) → IsStrictlySortedBy cmp xs → IsInOrder o xs
     unfolding IsStrictlySortedBy
     rise_in_order [] sorted = tt
@@ -63,15 +70,18 @@ module _ {X : Type 0} (cmp : X → X → Ordering) where
       All-weaker (λ y. cmp x y ≡ Less) (λ y. is_lt (cmp y x) ≡ false) (λ y less. ap is_lt (o.antisymm y x ∙ ap ordering_reverse less)) xs (All-from_recursion (λ y. cmp x y ≡ Less) xs sorted.0),
       rise_in_order xs sorted.1,
     )
+
     module _ (alone : IsAntisymmetric cmp) where
       -- ---- they are the same items
       or_twice : (first rest : Bool) → (first || rest) ≡ (first || (first || rest))
       or_twice true rest = refl
       or_twice false rest = refl
+
       or_other : (first second rest : Bool) → (first || (second || rest)) ≡ (second || (first || rest))
       or_other true true rest = refl
       or_other true false rest = refl
       or_other false second rest = refl
+
       has_inserted : (q : X) (xs : List X) (x : X) → has q (insert_key cmp xs x) ≡ has q (x ∷ xs)
       has_inserted q [] x = refl
       has_inserted q (y ∷ ys) x =
@@ -79,10 +89,12 @@ module _ {X : Type 0} (cmp : X → X → Ordering) where
           (λ less. refl)
           (λ same. or_twice (eq_by_cmp cmp q y) (has q ys) ∙ ap (λ first. has q (first ∷ y ∷ ys)) (sym (alone x y same)))
           (λ greater. ap (λ here. eq_by_cmp cmp q y || here) (has_inserted q ys x) ∙ or_other (eq_by_cmp cmp q y) (eq_by_cmp cmp q x) (has q ys))
+
       has_distinct : (q : X) (xs : List X) → has q (distinct cmp xs) ≡ has q xs
       unfolding distinct
       has_distinct q [] = refl
       has_distinct q (x ∷ xs) = has_inserted q (distinct cmp xs) x ∙ ap (λ here. eq_by_cmp cmp q x || here) (has_distinct q xs)
+
       -- ---- and there is one such list
       once : (q : X) (xs : List X) → IsStrictlySortedBy cmp xs → filter (level o q) xs ≡ cond (has q xs) (q ∷ []) []
       unfolding IsStrictlySortedBy
@@ -97,23 +109,29 @@ module _ {X : Type 0} (cmp : X → X → Ordering) where
               All-weaker (λ z. cmp y z ≡ Less) (λ z. is_lt (cmp q z) ≡ true) (λ z less. ap (λ first. is_lt (cmp first z)) one ∙ ap is_lt less) ys (All-from_recursion (λ z. cmp y z ≡ Less) ys sorted.0) in
               ap (λ first. first ∷ filter (level o q) ys) (sym one) ∙ ap (λ list. q ∷ list) (none_level o q ys behind)
           tested false is rest = rest
+
       pub same_distinct : (xs ys : List X) → IsStrictlySortedBy cmp xs → IsStrictlySortedBy cmp ys → ((q : X) → has q xs ≡ has q ys) → xs ≡ ys
       same_distinct xs ys one other same =
           same_order o xs ys (rise_in_order xs one) (rise_in_order ys other)
           (λ q. once q xs one ∙ ap (λ here. cond here (q ∷ []) []) (same q) ∙ sym (once q ys other))
+
       -- in whatever order the items stand
       pub distinct_moved : (xs ys : List X) → IsPermutation xs ys → distinct cmp xs ≡ distinct cmp ys
       distinct_moved xs ys moves =
           same_distinct (distinct cmp xs) (distinct cmp ys) (distinct_sorted xs) (distinct_sorted ys)
           (λ q. has_distinct q xs ∙ list_any-IsPermutation (eq_by_cmp cmp q) xs ys moves ∙ sym (has_distinct q ys))
+
       -- one more item at the end of the list goes to its place
       pub distinct_push : (xs : List X) (x : X) → distinct cmp (xs ++ x ∷ []) ≡ insert_key cmp (distinct cmp xs) x
       unfolding distinct
       distinct_push xs x = distinct_moved (xs ++ x ∷ []) (x ∷ xs) (IsPermutation-to_front xs x)
+
       is_level : (x y : X) → eq_by_cmp cmp x y ≡ true → x ≡ y
       is_level x y same = alone x y (equal_rank (cmp x y) same)
+
       has_contained : (q : X) (xs : List X) → Contains xs q → has q xs ≡ true
       has_contained q xs contains = list_any-from_Contains (eq_by_cmp_equiv o) q xs contains
+
       contained_has : (q : X) (xs : List X) → has q xs ≡ true → Contains xs q
       contained_has q xs here = Contains-from_any is_level q xs here
 

@@ -28,6 +28,7 @@ joined_onto_all P grows size current (next ∷ rest) first others row =
   where
     moved : (from other : ℕ) → from ≡ other → AreInARow from size rest → AreInARow other size rest
     moved from other same holds = let Q : ℕ → Type 0 = λ place. AreInARow place size rest in subst Q same holds
+
     either : (goes : Bool) → is_contiguous current next ≡ goes → (P (grown current next) → All P (joined_onto (grown current next) rest)) → All P (joined_onto next rest)
         → All P (if goes then joined_onto (grown current next) rest else (current ∷ joined_onto next rest))
     either true goes inside behind = inside (grows current next first (All-head P next rest others) goes row.0)
@@ -53,6 +54,7 @@ joined_onto_covers size current (next ∷ rest) some row =
   where
     moved : (from other : ℕ) → from ≡ other → AreInARow from size rest → AreInARow other size rest
     moved from other same holds = let Q : ℕ → Type 0 = λ place. AreInARow place size rest in subst Q same holds
+
     either : (goes : Bool) → is_contiguous current next ≡ goes → covers_from current.from size (joined_onto (grown current next) rest) ≡ true → covers_from next.from size (joined_onto next rest) ≡ true
         → covers_from current.from size (if goes then joined_onto (grown current next) rest else (current ∷ joined_onto next rest)) ≡ true
     either true goes inside behind = inside

@@ -2,8 +2,8 @@
 ghost use Rattle.std.specs.Prelude.{◌≡◌, ◌+◌, ◌<◌, ◌≤◌, ◌%◌, ℕ, IfOk, IsTrue, map, length};
 ghost use Rattle.ufs_defs.specs.Directory.{entry_of, entries_of, is_entry as is_entry_by, record_length as record_length_by};
 
-use bytes_defs::field::{u16_at, u32_at};
 use bytes_defs::Order::Little;
+use bytes_defs::field::{u16_at, u32_at};
 use std::alloc::{AllocFailed, Global};
 
 /// Whether the record at a place of a directory's content is an entry.

@@ -4,8 +4,8 @@ ghost use Rattle.ufs_defs.specs.Inode.{inode_of, inode_fragment as inode_fragmen
 
 use crate::signed::non_negative;
 use crate::superblock::Superblock;
-use bytes_defs::field::{i64_at, u16_at, u32_at, u64_at};
 use bytes_defs::Order::Little;
+use bytes_defs::field::{i64_at, u16_at, u32_at, u64_at};
 
 /// The fields of an inode that are read.
 #[derive(Clone, Copy, Debug, PartialEq, Eq)]
@@ -81,7 +81,9 @@ fn inode_fragment(superblock: &Superblock, number: u32) -> u128
     let group = u128::from(number / superblock.ipg);
     let block = u128::from(number % superblock.ipg / superblock.inopb);
     let start = u128::from(non_negative(superblock.fpg)) * group;
-    start + u128::from(non_negative(superblock.iblkno)) + u128::from(non_negative(superblock.frag)) * block
+    start
+        + u128::from(non_negative(superblock.iblkno))
+        + u128::from(non_negative(superblock.frag)) * block
 }
 
 /// The place in the volume of an inode.
@@ -93,5 +95,6 @@ pub fn inode_place(superblock: &Superblock, number: u32) -> u128
     ensures bounded { result < 2 ^ 100 }
 {
     let fragment = inode_fragment(superblock, number);
-    fragment * u128::from(non_negative(superblock.fsize)) + 256 * u128::from(number % superblock.inopb)
+    fragment * u128::from(non_negative(superblock.fsize))
+        + 256 * u128::from(number % superblock.inopb)
 }

@@ -3,8 +3,8 @@ ghost use Rattle.std.specs.Prelude.{◌≡◌, length};
 ghost use Rattle.ufs_defs.specs.Superblock.{is_block_size as is_block_size_by, is_fragment_size as is_fragment_size_by, is_fragment_count as is_fragment_count_by, is_inode_count as is_inode_count_by};
 
 use crate::signed::non_negative;
-use bytes_defs::field::{i32_at, u32_at};
 use bytes_defs::Order::Little;
+use bytes_defs::field::{i32_at, u32_at};
 
 /// The fields of the superblock that are read. FreeBSD's sys/ufs/ffs/fs.h names them, with `fs_` in front.
 #[derive(Clone, Copy, Debug, PartialEq, Eq)]
