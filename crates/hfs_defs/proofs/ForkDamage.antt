@@ -4,6 +4,7 @@ use Rattle.std.proofs.Common.{ap, subst, arith, ⊎_elim}
 use Rattle.std.proofs.lemmas.Bool.{and_cases, and_parts, leb-false, leb-true, eqb-false}
 use Rattle.std.proofs.lemmas.Bool.Decides.{Decides-eqb, nat_tests}
 use Rattle.hfs_defs.specs.Forks.{blocks_in, extents_with, written_extents, passes, first_passing, follow_on, is_whole, first_damage, fork_fault}
+use Rattle.hfs_defs.specs.Damage.{IsDamage}
 use Rattle.hfs_defs.specs.ForkDamage.{extents_in, IsFalseInFork, PassesVolume, BeginsElsewhere, HasOtherSum, HasMoreBytes, ForkDamageLaw}
 use Rattle.fault_defs.specs.declared.Refusal.{Refusal}
 use Rattle.fault_defs.specs.declared.Refusal.TheVariants.{Damaged}
@@ -99,18 +100,8 @@ follows sum (overflow ∷ front) next behind is =
 
 -- ---- the laws
 
-same_damage : (sort other : Sort) (place at : ℕ) → Damaged sort place ≡ Damaged other at → (sort ≡ other) × (place ≡ at)
-same_damage sort other place at same = (cc, cc)
-
 same_fault : (one other : Refusal) → Some one ≡ Some other → one ≡ other
 same_fault one other same = cc
-
-moved : (header : Header) (records : List OverflowRecord) (fork : Fork) (place : ℕ) (sort other : Sort) (at to : ℕ) → Some (Damaged sort at) ≡ Some (Damaged other to) → IsFalseInFork header records fork place sort at → IsFalseInFork header records fork place other to
-moved header records fork place sort other at to same holds =
-    let both = same_damage sort other at to (same_fault (Damaged sort at) (Damaged other to) same) in
-    let Q : Sort → Type 0 = λ s. IsFalseInFork header records fork place s to in
-    let R : ℕ → Type 0 = λ p. IsFalseInFork header records fork place sort p in
-    subst Q both.0 (subst R both.1 holds)
 
 over_end : (total : ℕ) (extent : Extent) → passes total extent ≡ true → (0 < extent.count) × (total < extent.start + extent.count)
 over_end total extent over = (grind (arith, nat_tests), grind (arith, nat_tests))
@@ -125,19 +116,19 @@ not_whole header records fork place is =
     (and_cases (blocks_in (extents_with records fork) == fork.total_blocks) (nat_le fork.logical_size (fork.total_blocks * header.block_size)) rest))
     (and_cases (follow_on (blocks_in fork.extents) records) (blocks_in (extents_with records fork) == fork.total_blocks && nat_le fork.logical_size (fork.total_blocks * header.block_size)) is)
 
--- a damage that is told is a clause that is false
-pub fork_stops : (header : Header) (records : List OverflowRecord) (fork : Fork) (place : ℕ) (sort : Sort) (at : ℕ) → fork_fault header records fork place ≡ Some (Damaged sort at) → IsFalseInFork header records fork place sort at
+-- a fault is a clause that is false
+fork_stops : (header : Header) (records : List OverflowRecord) (fork : Fork) (place : ℕ) (fault : Refusal) → fork_fault header records fork place ≡ Some fault → IsDamage (IsFalseInFork header records fork place) fault
 unfolding fork_fault
-fork_stops header records fork place sort at is = either (first_passing header.total_blocks (written_extents records fork place)) (is_whole header records fork) refl refl is
+fork_stops header records fork place fault is = either (first_passing header.total_blocks (written_extents records fork place)) (is_whole header records fork) refl refl is
   where
     either : (first : Option ℕ) (whole : Bool) → first_passing header.total_blocks (written_extents records fork place) ≡ first → is_whole header records fork ≡ whole
-        → first_damage place first whole ≡ Some (Damaged sort at) → IsFalseInFork header records fork place sort at
+        → first_damage place first whole ≡ Some fault → IsDamage (IsFalseInFork header records fork place) fault
     either (Some first) whole found its same =
         let over = passing header.total_blocks (written_extents records fork place) first found in
         let far = over_end header.total_blocks over.extent over.over in
-        moved header records fork place ForkExtent sort first at same (PassesVolume over.front over.extent first over.behind over.whole far.0 far.1)
+        subst (IsDamage (IsFalseInFork header records fork place)) (same_fault (Damaged ForkExtent first) fault same) (PassesVolume over.front over.extent first over.behind over.whole far.0 far.1)
     either None true found its same = absurd cc
-    either None false found its same = moved header records fork place ForkSum sort place at same (not_whole header records fork place its)
+    either None false found its same = subst (IsDamage (IsFalseInFork header records fork place)) (same_fault (Damaged ForkSum place) fault same) (not_whole header records fork place its)
 
 whole_parts : (header : Header) (records : List OverflowRecord) (fork : Fork) → is_whole header records fork ≡ true
     → (follow_on (blocks_in fork.extents) records ≡ true) × (blocks_in (extents_with records fork) ≡ fork.total_blocks) × (fork.logical_size ≤ fork.total_blocks * header.block_size)

@@ -6,6 +6,7 @@ use Rattle.std.proofs.lemmas.Bool.{true≢false}
 use Rattle.std.proofs.lemmas.Bool.Decides.{Decides-eqb, nat_tests}
 use Rattle.hfs_defs.specs.Nodes.{first_leaf, is_tree, next_node, is_sound_node}
 use Rattle.hfs_defs.specs.Leaves.{TreeFile, Leaf, LeafList, place_of, whole_nodes, node_in, node_place, is_leaf_in, leaves_in, ended, stopped, followed_by, chain_step, chain_end, chain_within, chain_of, leaves_where, leaves_of}
+use Rattle.hfs_defs.specs.Damage.{IsDamage}
 use Rattle.hfs_defs.specs.Chain.{IsGoodNode, LeadsTo, IsReached, IsChain, IsFalseInTree, NoTree, NoLeaf, TooMany, Unsound, LeavesLaw}
 use Rattle.fault_defs.specs.declared.Refusal.{Refusal}
 use Rattle.fault_defs.specs.declared.Refusal.TheVariants.{Damaged}
@@ -149,29 +150,20 @@ gives_chain file found tree walk none =
     }
 
 -- a fault is a false clause
-same_damage : (sort other : Sort) (place at : ℕ) → Damaged sort place ≡ Damaged other at → (sort ≡ other) × (place ≡ at)
-same_damage sort other place at same = (cc, cc)
-
-gives_false : (file : TreeFile) (found : LeafList) (sort : Sort) (place : ℕ) → is_tree file.bytes ≡ true → IsWalk file (whole_nodes file) (place_of file 24) (first_leaf file.bytes) found
-    → found.stop ≡ Some (Damaged sort place) → IsFalseInTree file sort place
-gives_false file found sort place tree walk is =
+gives_false : (file : TreeFile) (found : LeafList) (fault : Refusal) → is_tree file.bytes ≡ true → IsWalk file (whole_nodes file) (place_of file 24) (first_leaf file.bytes) found
+    → found.stop ≡ Some fault → IsDamage (IsFalseInTree file) fault
+gives_false file found fault tree walk is =
     let P : Option Refusal → Type 0 = λ stop. StopsWith file (whole_nodes file) (length walk.nodes) walk.last walk.to stop in
     let stops = subst P is walk.stops in
     let reached : IsReached file walk.nodes walk.last walk.to = (tree, walk.leads) in
+    let Q : Refusal → Type 0 = IsDamage (IsFalseInTree file) in
     ⊎_elim
-    (λ bad. moved NodeLink walk.last bad.0 (NoLeaf walk.nodes walk.last walk.to reached stops.0 bad.1))
+    (λ bad. subst Q (sym bad.0) (NoLeaf walk.nodes walk.last walk.to reached stops.0 bad.1))
     (λ other. ⊎_elim
-    (λ long. moved NodeLink file.fork_data long.0 (TooMany walk.nodes walk.last walk.to reached stops.0 long.1))
-    (λ unsound. moved NodeRecord (node_place file walk.to) unsound.0 (Unsound walk.nodes walk.last walk.to reached stops.0 unsound.1 unsound.2))
+    (λ long. subst Q (sym long.0) (TooMany walk.nodes walk.last walk.to reached stops.0 long.1))
+    (λ unsound. subst Q (sym unsound.0) (Unsound walk.nodes walk.last walk.to reached stops.0 unsound.1 unsound.2))
     other)
     stops.1
-  where
-    moved : (other : Sort) (at : ℕ) → Damaged sort place ≡ Damaged other at → IsFalseInTree file other at → IsFalseInTree file sort place
-    moved other at same holds =
-        let both = same_damage sort other place at same in
-        let Q : Sort → Type 0 = λ s. IsFalseInTree file s place in
-        let R : ℕ → Type 0 = λ p. IsFalseInTree file other p in
-        subst Q (sym both.0) (subst R (sym both.1) holds)
 
 -- a node of a chain that ends is good, and stands in front of the end
 on_the_way : (file : TreeFile) (link from : ℕ) (nodes part : List ℕ) (last other n : ℕ) → LeadsTo file link from nodes last 0 → LeadsTo file link from part other n → 0 < n
@@ -215,18 +207,16 @@ chain_is_leaves file records chain =
     (chain_gives file (whole_nodes file) (place_of file 24) (first_leaf file.bytes) chain.nodes chain.link chain.ends.1 chain.few
     ∙ ap (λ found. record { records = found; stop = None }) all)
 
-leaves_stop : (file : TreeFile) (sort : Sort) (place : ℕ) → (leaves_of file).stop ≡ Some (Damaged sort place) → IsFalseInTree file sort place
+leaves_stop : (file : TreeFile) (fault : Refusal) → (leaves_of file).stop ≡ Some fault → IsDamage (IsFalseInTree file) fault
 unfolding leaves_of
-leaves_stop file sort place is = either (is_tree file.bytes) refl is
+leaves_stop file fault is = either (is_tree file.bytes) refl is
   where
-    either : (tree : Bool) → is_tree file.bytes ≡ tree → (leaves_where file tree).stop ≡ Some (Damaged sort place) → IsFalseInTree file sort place
-    either true tree is = gives_false file (chain_of file) sort place tree (walk_within (whole_nodes file) file (place_of file 24) (first_leaf file.bytes)) is
-    either false tree is =
-        let same : Damaged TreeHeader file.fork_data ≡ Damaged sort place = cc in
-        let both = same_damage TreeHeader sort file.fork_data place same in
-        let Q : Sort → Type 0 = λ s. IsFalseInTree file s place in
-        let R : ℕ → Type 0 = λ p. IsFalseInTree file TreeHeader p in
-        subst Q both.0 (subst R both.1 (NoTree tree))
+    same_fault : (one other : Refusal) → Some one ≡ Some other → one ≡ other
+    same_fault one other same = cc
+
+    either : (tree : Bool) → is_tree file.bytes ≡ tree → (leaves_where file tree).stop ≡ Some fault → IsDamage (IsFalseInTree file) fault
+    either true tree is = gives_false file (chain_of file) fault tree (walk_within (whole_nodes file) file (place_of file 24) (first_leaf file.bytes)) is
+    either false tree is = subst (IsDamage (IsFalseInTree file)) (same_fault (Damaged TreeHeader file.fork_data) fault is) (NoTree tree)
 
 pub leaves_law : LeavesLaw
 leaves_law file = record {

@@ -2,3 +2,4 @@ pub mod ForkLaws
 pub mod ForkDamage
 pub mod LeafLaws
 pub mod Rows
+pub mod TreeFiles

@@ -3,7 +3,8 @@ use Rattle.std.specs.Prelude.{◌≡◌, ℕ, ◌<◌, ◌≤◌, true, false, S
 use Rattle.std.specs.List.{flat_map}
 use Rattle.hfs_defs.specs.Nodes.{first_leaf, is_tree, next_node, is_sound_node}
 use Rattle.hfs_defs.specs.Leaves.{TreeFile, Leaf, place_of, whole_nodes, node_in, node_place, is_leaf_in, leaves_in, leaves_of}
-use Rattle.fault_defs.specs.declared.Refusal.TheVariants.{Damaged}
+use Rattle.hfs_defs.specs.Damage.{IsDamage}
+use Rattle.fault_defs.specs.declared.Refusal.{Refusal}
 use Rattle.fault_defs.specs.declared.Sort.{Sort}
 use Rattle.fault_defs.specs.declared.Sort.TheVariants.{TreeHeader, NodeLink, NodeRecord}
 
@@ -43,7 +44,7 @@ pub data IsFalseInTree (file : TreeFile) : Sort → ℕ → Type 0 where
 pub record LeavesAreTheChain (file : TreeFile) : Type 0 where
   pub are_chain : (leaves_of file).stop ≡ None → IsChain file (leaves_of file).records
   pub chain_is : (records : List Leaf) → IsChain file records → leaves_of file ≡ record { records = records; stop = None }
-  pub stops : (sort : Sort) (place : ℕ) → (leaves_of file).stop ≡ Some (Damaged sort place) → IsFalseInTree file sort place
+  pub stops : (fault : Refusal) → (leaves_of file).stop ≡ Some fault → IsDamage (IsFalseInTree file) fault
   pub ends : (records : List Leaf) (sort : Sort) (place : ℕ) → IsChain file records → IsFalseInTree file sort place → ⊥
 
 abbrev pub LeavesLaw : Type 0

@@ -2,7 +2,8 @@
 use Rattle.std.specs.Prelude.{◌≡◌, ℕ, ◌+◌, ◌*◌, ◌<◌, Some, None, List, ◌∷◌, ◌++◌}
 use Rattle.std.specs.List.{flat_map}
 use Rattle.hfs_defs.specs.Forks.{blocks_in, extents_with, written_extents, fork_fault}
-use Rattle.fault_defs.specs.declared.Refusal.TheVariants.{Damaged}
+use Rattle.hfs_defs.specs.Damage.{IsDamage}
+use Rattle.fault_defs.specs.declared.Refusal.{Refusal}
 use Rattle.fault_defs.specs.declared.Sort.{Sort}
 use Rattle.fault_defs.specs.declared.Sort.TheVariants.{ForkExtent, ForkSum}
 use Rattle.hfs_defs.specs.declared.forks.Extent.{Extent}
@@ -23,9 +24,9 @@ pub data IsFalseInFork (header : Header) (records : List OverflowRecord) (fork :
   HasOtherSum : (blocks_in (extents_with records fork) ≡ fork.total_blocks → ⊥) → IsFalseInFork header records fork place ForkSum place
   HasMoreBytes : fork.total_blocks * header.block_size < fork.logical_size → IsFalseInFork header records fork place ForkSum place
 
--- a damage that is told of a fork is a false clause, and a fork without one has no false clause
+-- a fault of a fork is a clause that is false at its place, and a fork without one has no false clause
 pub record ForkDamageIsTrue (header : Header) (records : List OverflowRecord) (fork : Fork) (place : ℕ) : Type 0 where
-  pub stops : (sort : Sort) (at : ℕ) → fork_fault header records fork place ≡ Some (Damaged sort at) → IsFalseInFork header records fork place sort at
+  pub stops : (fault : Refusal) → fork_fault header records fork place ≡ Some fault → IsDamage (IsFalseInFork header records fork place) fault
   pub passes_all : (sort : Sort) (at : ℕ) → fork_fault header records fork place ≡ None → IsFalseInFork header records fork place sort at → ⊥
 
 abbrev pub ForkDamageLaw : Type 0

@@ -1,5 +1,5 @@
 -- The volume header: TN1150, "Volume Header" and "Fork Data Structure". All its numbers have the highest byte first.
-use Rattle.std.specs.Prelude.{ℕ, ◌+◌, ◌*◌, Bool, not, ◌&&◌, ◌||◌, nat_le, nat_lt, if◌then◌else◌, Option, Some, None, Result, Ok, Err, List, [], ◌∷◌}
+use Rattle.std.specs.Prelude.{◌≡◌, ℕ, ◌≤◌, ◌+◌, ◌*◌, Bool, not, ◌&&◌, ◌||◌, nat_le, nat_lt, if◌then◌else◌, Option, Some, None, Result, Ok, Err, List, [], ◌∷◌}
 use Rattle.std.specs.Int.{is_power_of_two}
 use Rattle.std.specs.Str.{bytes_eq}
 use Rattle.image_defs.specs.Ask.{Ask, look, check, given, ◌>>=◌, ◌>>◌}
@@ -67,6 +67,11 @@ wrong_field header =
     if not (is_block_size header.block_size)
     then Some 40
     else (if nat_lt header.len (header.total_blocks * header.block_size) then Some 44 else None)
+
+-- a header whose fields are right, of a volume that is long enough to have one
+pub record IsSoundHeader (header : Header) : Type 0 where
+  pub right : wrong_field header ≡ None
+  pub long : 2560 ≤ header.len
 
 -- the header, where no field of it is wrong
 abbrev pub checked : Header → Option ℕ → Result Header Refusal

@@ -1,5 +1,6 @@
 pub mod Header
 pub mod Forks
+pub mod Damage
 pub mod ForkDamage
 pub mod Nodes
 pub mod Leaves

@@ -1,5 +1,5 @@
 //! The volume header: TN1150, "Volume Header".
-ghost use Rattle.std.specs.Prelude.{◌≡◌, ◌+◌, ◌≤◌, length};
+ghost use Rattle.std.specs.Prelude.{◌≡◌, ◌⊎◌, ◌+◌, ◌≤◌, IfSome, length};
 
 use crate::forks::{Extent, Fork};
 use bytes_defs::Order::Big;
@@ -91,7 +91,8 @@ impl Header {
     /// The place in the header of the field that is wrong, if one is.
     #[tactic(auto, unfolding(crate::specs::Header::wrong_field, crate::specs::Header::is_block_size))]
     pub fn wrong_field(&self) -> Option<u64>
-        ensures { result ≡ wrong_field_of self.now }
+        ensures place { result ≡ wrong_field_of self.now }
+        ensures named { IfSome result (λ place. (place ≡ 40) ⊎ (place ≡ 44)) }
     {
         if !self.block_size.is_power_of_two() || self.block_size < 512 {
             return Some(40);
