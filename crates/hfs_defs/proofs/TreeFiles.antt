@@ -2,8 +2,8 @@
 use Rattle.std.specs.Prelude.{◌≡◌, Ok, Err, ℕ, List, [], ◌∷◌, ◌++◌, refl}
 use Rattle.std.specs.List.{flat_map}
 use Rattle.std.proofs.Common.{ap, ◌∙◌}
-use Rattle.image_defs.specs.Ask.{Ask, Done, run, each, ◌>>=◌}
-use Rattle.image_defs.specs.Runs.{run_bind_ok, run_given_ok, run_given_err}
+use Rattle.image_defs.specs.Ask.{Ask, Done, result_of, each, ◌>>=◌}
+use Rattle.image_defs.specs.Runs.{result_bind_ok, result_given_ok, result_given_err}
 use Rattle.rx_ranges.specs.declared.pieces.Piece.{Piece}
 use Rattle.rx_ranges.specs.declared.pieces.PieceKind.{PieceKind}
 use Rattle.rx_ranges.specs.declared.pieces.PieceKind.TheVariants.{Disk, Zero}
@@ -16,7 +16,7 @@ use Rattle.hfs_defs.specs.declared.forks.Fork.{Fork}
 use Rattle.hfs_defs.specs.declared.forks.OverflowRecord.{OverflowRecord}
 use Rattle.hfs_defs.specs.declared.header.Header.{Header}
 
-run_kind : (image : List ℕ) (kind : PieceKind) (at len : ℕ) → run image (look_of_kind kind at len) ≡ Ok (bytes_of_kind image kind at len)
+run_kind : (image : List ℕ) (kind : PieceKind) (at len : ℕ) → result_of image (look_of_kind kind at len) ≡ Ok (bytes_of_kind image kind at len)
 run_kind image Disk at len = refl
 run_kind image Zero at len = refl
 
@@ -25,33 +25,33 @@ abbrev bytes_each : List ℕ → List Piece → List (List ℕ)
 bytes_each image [] = []
 bytes_each image (piece ∷ pieces) = bytes_of_kind image piece.kind piece.at piece.len ∷ bytes_each image pieces
 
-run_pieces : (image : List ℕ) (pieces : List Piece) → run image (each (λ piece. look_of_kind piece.kind piece.at piece.len) pieces) ≡ Ok (bytes_each image pieces)
+run_pieces : (image : List ℕ) (pieces : List Piece) → result_of image (each (λ piece. look_of_kind piece.kind piece.at piece.len) pieces) ≡ Ok (bytes_each image pieces)
 run_pieces image [] = refl
 run_pieces image (piece ∷ pieces) =
     let rest : Ask Refusal (List (List ℕ)) = each (λ other. look_of_kind other.kind other.at other.len) pieces in
-    run_bind_ok image (look_of_kind piece.kind piece.at piece.len) (λ y. rest >>= (λ ys. Done (y ∷ ys))) _ (run_kind image piece.kind piece.at piece.len)
-    ∙ run_bind_ok image rest (λ ys. Done (bytes_of_kind image piece.kind piece.at piece.len ∷ ys)) _ (run_pieces image pieces)
+    result_bind_ok image (look_of_kind piece.kind piece.at piece.len) (λ y. rest >>= (λ ys. Done (y ∷ ys))) _ (run_kind image piece.kind piece.at piece.len)
+    ∙ result_bind_ok image rest (λ ys. Done (bytes_of_kind image piece.kind piece.at piece.len ∷ ys)) _ (run_pieces image pieces)
 
 all_bytes : (image : List ℕ) (pieces : List Piece) → flat_map (λ list. list) (bytes_each image pieces) ≡ bytes_through image pieces
 all_bytes image [] = refl
 all_bytes image (piece ∷ pieces) = ap (λ bytes. bytes_of_kind image piece.kind piece.at piece.len ++ bytes) (all_bytes image pieces)
 
 -- the bytes that pieces cover
-pub run_look_through : (image : List ℕ) (pieces : List Piece) → run image (look_through pieces) ≡ Ok (bytes_through image pieces)
+pub run_look_through : (image : List ℕ) (pieces : List Piece) → result_of image (look_through pieces) ≡ Ok (bytes_through image pieces)
 unfolding look_through
 run_look_through image pieces =
-    run_bind_ok image (each (λ piece. look_of_kind piece.kind piece.at piece.len) pieces) (λ bytes. Done (flat_map (λ list. list) bytes)) _ (run_pieces image pieces)
+    result_bind_ok image (each (λ piece. look_of_kind piece.kind piece.at piece.len) pieces) (λ bytes. Done (flat_map (λ list. list) bytes)) _ (run_pieces image pieces)
     ∙ ap Ok (all_bytes image pieces)
 
 -- the leaf records of a fork that was found, and the fault of one that wasn't
 pub fork_leaves_found : (image : List ℕ) (header : Header) (records : List OverflowRecord) (fork : Fork) (place : ℕ) (found : FoundFork) → found_fork header records fork place ≡ Ok found
-    → run image (fork_leaves header records fork place) ≡ Ok (leaves_of (tree_file (bytes_through image found.pieces) found.pieces place))
+    → result_of image (fork_leaves header records fork place) ≡ Ok (leaves_of (tree_file (bytes_through image found.pieces) found.pieces place))
 unfolding fork_leaves tree_leaves
 fork_leaves_found image header records fork place found is =
-    run_given_ok image (found_fork header records fork place) (λ found. tree_leaves place found.pieces) found is
-    ∙ run_bind_ok image (look_through found.pieces) (λ bytes. Done (leaves_of (tree_file bytes found.pieces place))) _ (run_look_through image found.pieces)
+    result_given_ok image (found_fork header records fork place) (λ found. tree_leaves place found.pieces) found is
+    ∙ result_bind_ok image (look_through found.pieces) (λ bytes. Done (leaves_of (tree_file bytes found.pieces place))) _ (run_look_through image found.pieces)
 
 pub fork_leaves_refused : (image : List ℕ) (header : Header) (records : List OverflowRecord) (fork : Fork) (place : ℕ) (fault : Refusal) → found_fork header records fork place ≡ Err fault
-    → run image (fork_leaves header records fork place) ≡ Err fault
+    → result_of image (fork_leaves header records fork place) ≡ Err fault
 unfolding fork_leaves
-fork_leaves_refused image header records fork place fault is = run_given_err image (found_fork header records fork place) (λ found. tree_leaves place found.pieces) fault is
+fork_leaves_refused image header records fork place fault is = result_given_err image (found_fork header records fork place) (λ found. tree_leaves place found.pieces) fault is

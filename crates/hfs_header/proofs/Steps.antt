@@ -5,8 +5,8 @@ use Rattle.std.proofs.lemmas.Bool.{le-leb, lt-leb}
 use Rattle.disk_defs.specs.Count.{Faults}
 use Rattle.disk_defs.specs.declared.Area.TheVariants.{Image}
 use Rattle.bytes_defs.specs.Bytes.{part}
-use Rattle.image_defs.specs.Ask.{run}
-use Rattle.image_defs.specs.Runs.{run_given, run_check_true, run_check_false}
+use Rattle.image_defs.specs.Ask.{result_of}
+use Rattle.image_defs.specs.Runs.{result_given, result_check_true, result_check_false}
 use Rattle.hfs_defs.specs.Header.{is_magic, header_of, wrong_field, checked, volume_header}
 use Rattle.hfs_defs.specs.declared.header.Header.{Header}
 use Rattle.rx_store.specs.Answers.{Answers}
@@ -17,51 +17,51 @@ use Rattle.fault_defs.specs.declared.Refusal.{Refusal}
 use Rattle.fault_defs.specs.declared.Refusal.TheVariants.{NotThis, Damaged}
 use Rattle.fault_defs.specs.declared.Sort.TheVariants.{HeaderField}
 
-pub too_short : (image : List ℕ) (at len : ℕ) → len < 1028 → run image (volume_header at len) ≡ Err NotThis
+pub too_short : (image : List ℕ) (at len : ℕ) → len < 1028 → result_of image (volume_header at len) ≡ Err NotThis
 unfolding volume_header
-too_short image at len short = run_check_false image (nat_le 1028 len) NotThis _ (lt-leb 1028 len short)
+too_short image at len short = result_check_false image (nat_le 1028 len) NotThis _ (lt-leb 1028 len short)
 
-pub other_magic : (image : List ℕ) (at len : ℕ) → 1028 ≤ len → is_magic (part image (at + 1024) 4) ≡ false → run image (volume_header at len) ≡ Err NotThis
+pub other_magic : (image : List ℕ) (at len : ℕ) → 1028 ≤ len → is_magic (part image (at + 1024) 4) ≡ false → result_of image (volume_header at len) ≡ Err NotThis
 unfolding volume_header
 other_magic image at len enough other =
-    run_check_true image (nat_le 1028 len) NotThis _ (le-leb 1028 len enough) ∙ run_check_false image (is_magic (part image (at + 1024) 4)) NotThis _ other
+    result_check_true image (nat_le 1028 len) NotThis _ (le-leb 1028 len enough) ∙ result_check_false image (is_magic (part image (at + 1024) 4)) NotThis _ other
 
-pub short_volume : (image : List ℕ) (at len : ℕ) → 1028 ≤ len → is_magic (part image (at + 1024) 4) ≡ true → len < 2560 → run image (volume_header at len) ≡ Err (Damaged HeaderField (at + 1024))
+pub short_volume : (image : List ℕ) (at len : ℕ) → 1028 ≤ len → is_magic (part image (at + 1024) 4) ≡ true → len < 2560 → result_of image (volume_header at len) ≡ Err (Damaged HeaderField (at + 1024))
 unfolding volume_header
 short_volume image at len enough fits short =
-    run_check_true image (nat_le 1028 len) NotThis _ (le-leb 1028 len enough)
-    ∙ run_check_true image (is_magic (part image (at + 1024) 4)) NotThis _ fits
-    ∙ run_check_false image (nat_le 2560 len) (Damaged HeaderField (at + 1024)) _ (lt-leb 2560 len short)
+    result_check_true image (nat_le 1028 len) NotThis _ (le-leb 1028 len enough)
+    ∙ result_check_true image (is_magic (part image (at + 1024) 4)) NotThis _ fits
+    ∙ result_check_false image (nat_le 2560 len) (Damaged HeaderField (at + 1024)) _ (lt-leb 2560 len short)
 
 pub whole_header : (image : List ℕ) (at len : ℕ) → is_magic (part image (at + 1024) 4) ≡ true → 2560 ≤ len
-    → run image (volume_header at len) ≡ checked (header_of at len (part image (at + 1024) 512)) (wrong_field (header_of at len (part image (at + 1024) 512)))
+    → result_of image (volume_header at len) ≡ checked (header_of at len (part image (at + 1024) 512)) (wrong_field (header_of at len (part image (at + 1024) 512)))
 unfolding volume_header
 whole_header image at len fits long =
-    run_check_true image (nat_le 1028 len) NotThis _ (le-leb 1028 len (omega (arith, long)))
-    ∙ run_check_true image (is_magic (part image (at + 1024) 4)) NotThis _ fits
-    ∙ run_check_true image (nat_le 2560 len) (Damaged HeaderField (at + 1024)) _ (le-leb 2560 len long)
-    ∙ run_given image (checked (header_of at len (part image (at + 1024) 512)) (wrong_field (header_of at len (part image (at + 1024) 512))))
+    result_check_true image (nat_le 1028 len) NotThis _ (le-leb 1028 len (omega (arith, long)))
+    ∙ result_check_true image (is_magic (part image (at + 1024) 4)) NotThis _ fits
+    ∙ result_check_true image (nat_le 2560 len) (Damaged HeaderField (at + 1024)) _ (le-leb 2560 len long)
+    ∙ result_given image (checked (header_of at len (part image (at + 1024) 512)) (wrong_field (header_of at len (part image (at + 1024) 512))))
 
 -- ---- the same where the image is told
 
-pub short_told : (told : Option (List ℕ)) (at len : ℕ) → len < 1028 → IfSome told (λ image. run image (volume_header at len) ≡ Err NotThis)
+pub short_told : (told : Option (List ℕ)) (at len : ℕ) → len < 1028 → IfSome told (λ image. result_of image (volume_header at len) ≡ Err NotThis)
 short_told None at len short = tt
 short_told (Some image) at len short = too_short image at len short
 
 pub magic_told : (told : Option (List ℕ)) (magic : List ℕ) (at len : ℕ) → 1028 ≤ len → IfSome told (λ image. magic ≡ part image (at + 1024) 4) → is_magic magic ≡ false
-    → IfSome told (λ image. run image (volume_header at len) ≡ Err NotThis)
+    → IfSome told (λ image. result_of image (volume_header at len) ≡ Err NotThis)
 magic_told None magic at len enough read other = tt
 magic_told (Some image) magic at len enough read other = other_magic image at len enough (ap is_magic (sym read) ∙ other)
 
 pub length_told : (told : Option (List ℕ)) (magic : List ℕ) (at len : ℕ) → 1028 ≤ len → IfSome told (λ image. magic ≡ part image (at + 1024) 4) → is_magic magic ≡ true → len < 2560
-    → IfSome told (λ image. run image (volume_header at len) ≡ Err (Damaged HeaderField (at + 1024)))
+    → IfSome told (λ image. result_of image (volume_header at len) ≡ Err (Damaged HeaderField (at + 1024)))
 length_told None magic at len enough read fits short = tt
 length_told (Some image) magic at len enough read fits short = short_volume image at len enough (ap is_magic (sym read) ∙ fits) short
 
 pub header_told : (told later : Option (List ℕ)) (magic bytes : List ℕ) (at len : ℕ) (header : Header) (result : Result Header ReadFault) → later ≡ told
     → IfSome told (λ image. magic ≡ part image (at + 1024) 4) → is_magic magic ≡ true → 2560 ≤ len
     → IfSome later (λ image. bytes ≡ part image (at + 1024) 512) → header ≡ header_of at len bytes → Answers result (checked header (wrong_field header))
-    → IfSome told (λ image. Answers result (run image (volume_header at len)))
+    → IfSome told (λ image. Answers result (result_of image (volume_header at len)))
 header_told None later magic bytes at len header result same read fits long all is answer = tt
 header_told (Some image) later magic bytes at len header result same read fits long all is answer =
     let P : Option (List ℕ) → Type 0 = λ told. IfSome told (λ image. bytes ≡ part image (at + 1024) 512) in

@@ -9,7 +9,7 @@ use Rattle.bytes_defs.specs.Bytes.{part}
 use Rattle.rx_ranges.specs.declared.pieces.Piece.{Piece}
 use Rattle.piece_defs.specs.Places.{bytes_of_kind, bytes_through, IsWithin, AreWithin}
 use Rattle.piece_defs.specs.Joined.{AreInARow}
-use Rattle.piece_defs.specs.ByteLaws.{length-part, length-of_kind, length-through, part-behind, part-next}
+use Rattle.piece_defs.proofs.ByteLaws.{length-part, length-of_kind, length-through, part-behind, part-next}
 
 -- a piece of pieces that lie in an image lies in it
 pub within_at : (size : ℕ) (pieces : List Piece) (i : ℕ) (d : Piece) → i < length pieces → AreWithin size pieces → IsWithin size (get_or pieces i d).kind (get_or pieces i d).at (get_or pieces i d).len

@@ -13,7 +13,7 @@ use rx_ranges::{Piece, PieceKind};
 use rx_store::{Area, Fault, Store};
 
 /// Reads bytes of a piece, from `skip` bytes behind its begin on.
-#[tactic(auto, using(piece_defs::specs::ByteLaws::part_reads))]
+#[tactic(auto, using(piece_defs::proofs::ByteLaws::part_reads))]
 fn read_piece<S: Store>(store: &mut S, piece: Piece, skip: u64, buf: &mut [u8]) -> Result<(), Fault>
     requires within { IsWithin (size_of Image (S.state store.old)) piece.kind piece.at piece.len }
     requires inside { skip + length buf.old ≤ piece.len }

@@ -4,7 +4,7 @@
 //! parts: runs of the image that hold its bytes (`Pieces`), and the slack. The types keep their order and their bounds as
 //! invariants, so whoever holds a tree knows that all of it lies in the image.
 //!
-//!     join_path(alloc, &folder, &name)?      // "/" and "a" give "/a", "/b" and "a" give "/b/a"
+//!     join_path(alloc, &directory, &name)?      // "/" and "a" give "/a", "/b" and "a" give "/b/a"
 #![tactic(auto)]
 
 mod file;

@@ -5,7 +5,7 @@ use Rattle.bytes_defs.specs.Bytes.{part}
 use Rattle.rx_ranges.specs.declared.pieces.PieceKind.{PieceKind}
 use Rattle.rx_ranges.specs.declared.pieces.PieceKind.TheVariants.{Disk, Zero}
 use Rattle.piece_defs.specs.Places.{bytes_of_kind, IsWithin}
-use Rattle.piece_defs.specs.ByteLaws.{part-hole}
+use Rattle.piece_defs.proofs.ByteLaws.{part-hole}
 use Rattle.piece_reads.proofs.read_piece.Goals as goal
 
 inside_disk : (size : ℕ) (kind : PieceKind) (at len : ℕ) → kind ≡ Disk → IsWithin size kind at len → at + len ≤ size
