@@ -97,7 +97,7 @@ each_looks P image ask (x ∷ xs) all =
     (λ y is. looks_bind P image (each ask xs) (λ ys. Done (y ∷ ys)) (each_looks P image ask xs (All-tail (λ x. LooksAt P image (ask x)) x xs all)) (λ ys are. looks_done P image (y ∷ ys)))
 
 -- the pieces that were found are those of the fork
-found_gives : (header : Header) (records : List OverflowRecord) (fork : Fork) (place : ℕ) (found : FoundFork) → found_fork header records fork place ≡ Ok found
+pub found_gives : (header : Header) (records : List OverflowRecord) (fork : Fork) (place : ℕ) (found : FoundFork) → found_fork header records fork place ≡ Ok found
     → (fork_fault header records fork place ≡ None) × (pieces_of header fork.logical_size (extents_with records fork) ≡ found.pieces)
 unfolding found_fork
 found_gives header records fork place found is = either (fork_fault header records fork place) is
@@ -190,7 +190,7 @@ record IsRead (at : ℕ) (header : Header) : Type 0 where
   same_at : header.at ≡ at
   some : 0 < header.block_size
 
-some_bytes : (header : Header) → wrong_field header ≡ None → 0 < header.block_size
+pub some_bytes : (header : Header) → wrong_field header ≡ None → 0 < header.block_size
 unfolding wrong_field is_block_size
 some_bytes header none = grind (arith, nat_tests)
 

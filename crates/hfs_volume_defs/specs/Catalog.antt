@@ -1,5 +1,5 @@
 -- The records of the catalog: TN1150, "Catalog File".
-use Rattle.std.specs.Prelude.{ℕ, zero, suc, ◌+◌, ◌*◌, ◌%◌, Bool, ◌&&◌, ◌||◌, ◌==◌, nat_le, if◌then◌else◌, Option, Some, None, Result, Ok, Err, List, [], ◌∷◌, length, slice_index}
+use Rattle.std.specs.Prelude.{ℕ, zero, suc, ◌+◌, ◌*◌, ◌%◌, Bool, ◌&&◌, ◌||◌, ◌==◌, nat_le, if◌then◌else◌, Option, Some, None, Result, Ok, Err, List, [], ◌∷◌, length, slice_index, true, false}
 use Rattle.std.specs.List.{filter_map}
 use Rattle.bytes_defs.specs.Numbers.{big_at}
 use Rattle.image_defs.specs.Runs.{with_value}
@@ -111,6 +111,16 @@ whole_kind bytes NoRecord = NoRecord
 -- what a record is: it has a type, and what that asks
 unfoldable pub record_kind : List ℕ → RecordKind
 record_kind bytes = if has_body bytes 2 then whole_kind bytes (kind_of_type (body_type bytes)) else NoRecord
+
+-- it is one of the three
+abbrev pub is_some_kind : RecordKind → Bool
+is_some_kind FolderRecord = true
+is_some_kind FileRecord = true
+is_some_kind ThreadRecord = true
+is_some_kind NoRecord = false
+
+unfoldable pub is_catalog_record : List ℕ → Bool
+is_catalog_record bytes = is_some_kind (record_kind bytes)
 
 -- the entry of a leaf record: a thread has none
 abbrev pub entry_by : RecordKind → Leaf → Result (Option Entry) Refusal

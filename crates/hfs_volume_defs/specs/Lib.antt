@@ -2,3 +2,4 @@ pub mod Catalog
 pub mod Folders
 pub mod Files
 pub mod Volume
+pub mod Damage

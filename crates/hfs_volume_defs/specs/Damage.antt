@@ -1,0 +1,134 @@
+-- What is wrong with a volume, in the words of the tables: what is damaged and where, what isn't supported, and of what
+-- there is too much. Of several that hold none comes first.
+use Rattle.std.specs.Prelude.{◌≡◌, ℕ, ◌+◌, ◌*◌, ◌<◌, ◌≤◌, Bool, true, false, Some, Ok, Err, List, [], ◌∷◌, ◌++◌, length}
+use Rattle.std.specs.List.{sum_by}
+use Rattle.bytes_defs.specs.Bytes.{part}
+use Rattle.image_defs.specs.Ask.{run}
+use Rattle.image_defs.specs.Runs.{each_result}
+use Rattle.piece_defs.specs.Places.{bytes_through}
+use Rattle.rx_tree.specs.FoundTree.{FoundTree}
+use Rattle.rx_tree.specs.declared.file.FileEntry.{FileEntry}
+use Rattle.hfs_defs.specs.Header.{is_magic, header_of, is_block_size, volume_header}
+use Rattle.hfs_defs.specs.Forks.{blocks_in, records_of, FoundFork, found_fork}
+use Rattle.hfs_defs.specs.ForkDamage.{IsFalseInFork}
+use Rattle.hfs_defs.specs.Leaves.{Leaf, LeafList, tree_file}
+use Rattle.hfs_defs.specs.Chain.{IsFalseInTree}
+use Rattle.hfs_defs.specs.Overflow.{is_overflow_record}
+use Rattle.hfs_defs.specs.TreeFiles.{extents_at, catalog_at, fork_leaves, volume_overflow}
+use Rattle.hfs_volume_defs.specs.Catalog.{Entry, FileInfo, is_catalog_record}
+use Rattle.hfs_volume_defs.specs.Folders.{is_special_number, has_id, has_folder, is_in_folder, own_path, links_to, listed, is_empty_fork}
+use Rattle.hfs_volume_defs.specs.Files.{NamedEntry, entries_or_own, named_entries, entry_file, SpecialFile, special_files, special_file}
+use Rattle.hfs_volume_defs.specs.Volume.{volume_entries, longest_image, most_names, most_path_bytes, most_runs, all_names, run_count, volume_tree}
+use Rattle.fault_defs.specs.declared.Bound.{Bound}
+use Rattle.fault_defs.specs.declared.Bound.TheVariants.{Image, Names, PathBytes, Runs}
+use Rattle.fault_defs.specs.declared.Refusal.{Refusal}
+use Rattle.fault_defs.specs.declared.Refusal.TheVariants.{NotThis, Damaged, Unsupported, Limit}
+use Rattle.fault_defs.specs.declared.Sort.{Sort}
+use Rattle.fault_defs.specs.declared.Sort.TheVariants.{HeaderField, ExtentsRecord, CatalogRecord, CatalogTwice, FolderMissing}
+use Rattle.fault_defs.specs.declared.What.{What}
+use Rattle.fault_defs.specs.declared.What.TheVariants.{ExtentsFork}
+use Rattle.hfs_defs.specs.declared.forks.Fork.{Fork}
+use Rattle.hfs_defs.specs.declared.forks.OverflowRecord.{OverflowRecord}
+use Rattle.hfs_defs.specs.declared.header.Header.{Header}
+
+-- a volume of `len` bytes at a place has the magic of HFS+
+pub record HasMagic (image : List ℕ) (at len : ℕ) : Type 0 where
+  pub enough : 1028 ≤ len
+  pub fits : is_magic (part image (at + 1024) 4) ≡ true
+
+-- the fields of its header, right or wrong
+abbrev pub header_in : List ℕ → ℕ → ℕ → Header
+header_in image at len = header_of at len (part image (at + 1024) 512)
+
+-- the clauses of the header that are false, and where
+pub data IsFalseInHeader (image : List ℕ) (at len : ℕ) : Sort → ℕ → Type 0 where
+  ShortVolume : len < 2560 → IsFalseInHeader image at len HeaderField (at + 1024)
+  OtherBlockSize : 2560 ≤ len → is_block_size (header_in image at len).block_size ≡ false → IsFalseInHeader image at len HeaderField (at + 1064)
+  BlocksPassVolume : 2560 ≤ len → len < (header_in image at len).total_blocks * (header_in image at len).block_size → IsFalseInHeader image at len HeaderField (at + 1068)
+
+-- the clauses of a tree file that are false, and where: those of its fork, of its tree, and of its leaf records, of which
+-- each has to pass a test
+pub data IsFalseInFile (image : List ℕ) (header : Header) (records : List OverflowRecord) (fork : Fork) (place : ℕ) (is_record : List ℕ → Bool) (bad : Sort) : Sort → ℕ → Type 0 where
+  OfFork : (sort : Sort) (at : ℕ) → IsFalseInFork header records fork place sort at → IsFalseInFile image header records fork place is_record bad sort at
+  OfTree : (found : FoundFork) (sort : Sort) (at : ℕ) → found_fork header records fork place ≡ Ok found
+      → IsFalseInTree (tree_file (bytes_through image found.pieces) found.pieces place) sort at → IsFalseInFile image header records fork place is_record bad sort at
+  OfRecord : (sort : Sort) (leaves : LeafList) (front : List Leaf) (leaf : Leaf) (behind : List Leaf) → sort ≡ bad → run image (fork_leaves header records fork place) ≡ Ok leaves
+      → leaves.records ≡ front ++ leaf ∷ behind → is_record leaf.bytes ≡ false → IsFalseInFile image header records fork place is_record bad sort leaf.at
+
+-- the clauses of the entries of a catalog that are false, and where
+pub data IsFalseInEntries (header : Header) (entries : List Entry) : Sort → ℕ → Type 0 where
+  SpecialNumber : (front : List Entry) (entry : Entry) (behind : List Entry) → entries ≡ front ++ entry ∷ behind → is_special_number entry.id ≡ true → IsFalseInEntries header entries CatalogTwice entry.at
+  Twice : (front : List Entry) (entry : Entry) (behind : List Entry) → entries ≡ front ++ entry ∷ behind → has_id entry.id (front ++ behind) ≡ true → IsFalseInEntries header entries CatalogTwice entry.at
+  NoRoot : has_folder entries 2 ≡ false → IsFalseInEntries header entries FolderMissing (catalog_at header)
+  Outside : (front : List Entry) (entry : Entry) (behind : List Entry) → entries ≡ front ++ entry ∷ behind → is_in_folder entries entry ≡ false → IsFalseInEntries header entries FolderMissing entry.at
+
+-- the clauses of the forks of files that are false, and where: of the data fork of each file that isn't a hard link, of its
+-- resource fork where it has one, and of the special files
+pub data IsFalseInFiles (header : Header) (overflow : List OverflowRecord) (entries : List Entry) : Sort → ℕ → Type 0 where
+  InDataFork : (front : List Entry) (entry : Entry) (behind : List Entry) (info : FileInfo) (sort : Sort) (place : ℕ) → listed entries ≡ front ++ entry ∷ behind → entry.info ≡ Some info
+      → IsFalseInFork header (records_of overflow entry.id 0) info.data_fork (entry.body_at + 88) sort place → IsFalseInFiles header overflow entries sort place
+  InResourceFork : (front : List Entry) (entry : Entry) (behind : List Entry) (info : FileInfo) (sort : Sort) (place : ℕ) → listed entries ≡ front ++ entry ∷ behind → entry.info ≡ Some info
+      → is_empty_fork info.resource_fork ≡ false → IsFalseInFork header (records_of overflow entry.id 255) info.resource_fork (entry.body_at + 168) sort place → IsFalseInFiles header overflow entries sort place
+  InSpecialFork : (front : List SpecialFile) (special : SpecialFile) (behind : List SpecialFile) (sort : Sort) (place : ℕ) → special_files header ≡ front ++ special ∷ behind
+      → IsFalseInFork header (records_of overflow special.number 0) special.fork (header.at + 1024 + special.offset) sort place → IsFalseInFiles header overflow entries sort place
+
+-- a volume up to its header, its overflow records, and its entries
+abbrev pub HasHeader : List ℕ → ℕ → ℕ → Header → Type 0
+HasHeader image at len header = run image (volume_header at len) ≡ Ok header
+
+pub record HasOverflow (image : List ℕ) (at len : ℕ) (header : Header) (overflow : List OverflowRecord) : Type 0 where
+  pub header_is : HasHeader image at len header
+  pub overflow_is : run image (volume_overflow header) ≡ Ok overflow
+
+pub record HasEntries (image : List ℕ) (at len : ℕ) (header : Header) (overflow : List OverflowRecord) (entries : List Entry) : Type 0 where
+  pub below : HasOverflow image at len header overflow
+  pub entries_are : run image (volume_entries header overflow) ≡ Ok entries
+
+-- the clauses that are false of a volume, and where
+pub data IsFalseAt (image : List ℕ) (at len : ℕ) : Sort → ℕ → Type 0 where
+  InHeader : (sort : Sort) (place : ℕ) → HasMagic image at len → IsFalseInHeader image at len sort place → IsFalseAt image at len sort place
+  InExtents : (header : Header) (sort : Sort) (place : ℕ) → HasHeader image at len header
+      → IsFalseInFile image header [] header.extents (extents_at header) is_overflow_record ExtentsRecord sort place → IsFalseAt image at len sort place
+  InCatalog : (header : Header) (overflow : List OverflowRecord) (sort : Sort) (place : ℕ) → HasOverflow image at len header overflow
+      → IsFalseInFile image header (records_of overflow 4 0) header.catalog (catalog_at header) is_catalog_record CatalogRecord sort place → IsFalseAt image at len sort place
+  InEntries : (header : Header) (overflow : List OverflowRecord) (entries : List Entry) (sort : Sort) (place : ℕ) → HasEntries image at len header overflow entries
+      → IsFalseInEntries header entries sort place → IsFalseAt image at len sort place
+  InFiles : (header : Header) (overflow : List OverflowRecord) (entries : List Entry) (sort : Sort) (place : ℕ) → HasEntries image at len header overflow entries
+      → IsFalseInFiles header overflow entries sort place → IsFalseAt image at len sort place
+
+-- what isn't supported: an extents file whose eight extents aren't all of its blocks
+pub data IsUnsupportedAt (image : List ℕ) (at len : ℕ) : What → ℕ → Type 0 where
+  MoreExtents : (header : Header) → HasHeader image at len header → (blocks_in header.extents.extents ≡ header.extents.total_blocks → ⊥) → IsUnsupportedAt image at len ExtentsFork (extents_at header)
+
+-- what there is more of than its limit: bytes of the image; folders above a name, or bytes of its path; names, and bytes of
+-- all of them; pieces of all files
+pub data IsOver (image : List ℕ) (at len volume : ℕ) : Bound → ℕ → Type 0 where
+  LongImage : longest_image < length image → IsOver image at len volume Image longest_image
+  OfName : (header : Header) (overflow : List OverflowRecord) (entries front : List Entry) (entry : Entry) (behind others : List Entry) (one : Entry) (more : List Entry) (bound : Bound) (number : ℕ)
+      → HasEntries image at len header overflow entries → listed entries ≡ front ++ entry ∷ behind → entries_or_own (links_to entries entry.id) entry ≡ others ++ one ∷ more
+      → own_path entries one ≡ Err (Limit bound number) → IsOver image at len volume bound number
+  ManyNames : (header : Header) (overflow : List OverflowRecord) (entries : List Entry) (named : List NamedEntry) → HasEntries image at len header overflow entries → named_entries entries ≡ Ok named
+      → most_names < length (all_names header named) → IsOver image at len volume Names most_names
+  LongNames : (header : Header) (overflow : List OverflowRecord) (entries : List Entry) (named : List NamedEntry) → HasEntries image at len header overflow entries → named_entries entries ≡ Ok named
+      → most_path_bytes < sum_by length (all_names header named) → IsOver image at len volume PathBytes most_path_bytes
+  ManyRuns : (header : Header) (overflow : List OverflowRecord) (entries : List Entry) (named : List NamedEntry) (files specials : List FileEntry) → HasEntries image at len header overflow entries
+      → named_entries entries ≡ Ok named → each_result (entry_file volume header overflow) named ≡ Ok files → each_result (special_file volume header overflow) (special_files header) ≡ Ok specials
+      → most_runs < run_count (files ++ specials) → IsOver image at len volume Runs most_runs
+
+-- what a refusal says of a volume with the magic holds of it
+abbrev pub IsWrong : List ℕ → ℕ → ℕ → ℕ → Refusal → Type 0
+IsWrong image at len volume NotThis = ⊥
+IsWrong image at len volume (Damaged sort place) = IsFalseAt image at len sort place
+IsWrong image at len volume (Unsupported what place) = IsUnsupportedAt image at len what place
+IsWrong image at len volume (Limit bound number) = IsOver image at len volume bound number
+
+-- A volume without the magic is something else, and one with it isn't. What refuses a volume with the magic is wrong with
+-- it, nothing is wrong with one that has a tree, and one with which nothing is wrong has a tree.
+pub record RefusalsAreTrue (image : List ℕ) (at len volume : ℕ) : Type 0 where
+  pub other : (HasMagic image at len → ⊥) → run image (volume_tree (length image) at len volume) ≡ Err NotThis
+  pub refuses : (fault : Refusal) → HasMagic image at len → run image (volume_tree (length image) at len volume) ≡ Err fault → IsWrong image at len volume fault
+  pub accepts : (tree : FoundTree) (fault : Refusal) → run image (volume_tree (length image) at len volume) ≡ Ok tree → IsWrong image at len volume fault → ⊥
+  pub complete : HasMagic image at len → ((fault : Refusal) → IsWrong image at len volume fault → ⊥) → (tree : FoundTree) × (run image (volume_tree (length image) at len volume) ≡ Ok tree)
+
+abbrev pub HfsDamageLaw : Type 0
+HfsDamageLaw = (image : List ℕ) (at len volume : ℕ) → RefusalsAreTrue image at len volume
