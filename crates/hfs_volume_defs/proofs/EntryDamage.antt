@@ -5,8 +5,8 @@ use Rattle.std.specs.List.{list_any}
 use Rattle.std.proofs.Common.{ap, sym, ◌∙◌, subst, ◌⊎◌, inl, inr, ⊎_elim, append-nil, append_assoc}
 use Rattle.std.proofs.lemmas.Bool.{true≢false, or_cases, or_left, or_right}
 use Rattle.std.proofs.lemmas.Bool.Decides.{Decides-eqb}
-use Rattle.image_defs.specs.Ask.{run, check, ◌>>=◌}
-use Rattle.image_defs.specs.Looks.{bind_gives, check_gives, bind_refuses, check_refuses}
+use Rattle.image_defs.specs.Ask.{result_of, check, ◌>>=◌}
+use Rattle.image_defs.proofs.Looks.{bind_gives, check_gives, bind_refuses, check_refuses}
 use Rattle.hfs_defs.specs.Damage.{IsDamage}
 use Rattle.hfs_defs.specs.TreeFiles.{catalog_at}
 use Rattle.hfs_volume_defs.specs.Catalog.{Entry}
@@ -150,15 +150,15 @@ record IsRefusedEntry (sort : Sort) (found : Option Entry) (fault : Refusal) : T
   there : found ≡ Some entry
   is : Damaged sort entry.at ≡ fault
 
-refuse_refuses : (image : List ℕ) (sort : Sort) (found : Option Entry) (fault : Refusal) → run image (refuse sort found) ≡ Err fault → IsRefusedEntry sort found fault
+refuse_refuses : (image : List ℕ) (sort : Sort) (found : Option Entry) (fault : Refusal) → result_of image (refuse sort found) ≡ Err fault → IsRefusedEntry sort found fault
 refuse_refuses image sort None fault is = absurd cc
 refuse_refuses image sort (Some entry) fault is = record { entry = entry; there = refl; is = same_error {X = Unit {0}} (Damaged sort entry.at) fault is }
 
-refuse_passes : (image : List ℕ) (sort : Sort) (found : Option Entry) (done : Unit {0}) → run image (refuse sort found) ≡ Ok done → found ≡ None
+refuse_passes : (image : List ℕ) (sort : Sort) (found : Option Entry) (done : Unit {0}) → result_of image (refuse sort found) ≡ Ok done → found ≡ None
 refuse_passes image sort None done is = refl
 refuse_passes image sort (Some entry) done is = absurd cc
 
-pub entries_refused : (image : List ℕ) (header : Header) (entries : List Entry) (fault : Refusal) → run image (sound_entries header entries) ≡ Err fault → IsDamage (IsFalseInEntries header entries) fault
+pub entries_refused : (image : List ℕ) (header : Header) (entries : List Entry) (fault : Refusal) → result_of image (sound_entries header entries) ≡ Err fault → IsDamage (IsFalseInEntries header entries) fault
 unfolding sound_entries
 entries_refused image header entries fault is =
     let P : Refusal → Type 0 = IsDamage (IsFalseInEntries header entries) in
@@ -179,7 +179,7 @@ entries_refused image header entries fault is =
     (check_refuses image (has_folder entries 2) (Damaged FolderMissing (catalog_at header)) (λ root. refuse FolderMissing (first_outside entries entries)) fault once.2))
     (bind_refuses image (refuse CatalogTwice (first_twice [] entries)) (λ once. check (has_folder entries 2) (Damaged FolderMissing (catalog_at header)) >>= (λ root. refuse FolderMissing (first_outside entries entries))) fault is)
 
-pub entries_pass : (image : List ℕ) (header : Header) (entries : List Entry) (done : Unit {0}) (sort : Sort) (place : ℕ) → run image (sound_entries header entries) ≡ Ok done → IsFalseInEntries header entries sort place → ⊥
+pub entries_pass : (image : List ℕ) (header : Header) (entries : List Entry) (done : Unit {0}) (sort : Sort) (place : ℕ) → result_of image (sound_entries header entries) ≡ Ok done → IsFalseInEntries header entries sort place → ⊥
 unfolding sound_entries
 entries_pass image header entries done sort place is false' =
     let once = bind_gives image (refuse CatalogTwice (first_twice [] entries)) (λ once. check (has_folder entries 2) (Damaged FolderMissing (catalog_at header)) >>= (λ root. refuse FolderMissing (first_outside entries entries))) done is in
