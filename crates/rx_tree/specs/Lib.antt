@@ -5,3 +5,4 @@ pub mod Path
 pub mod PartOrder
 pub mod PartPieces
 pub mod Within
+pub mod NameLimits

@@ -8,12 +8,14 @@
 #![tactic(auto)]
 
 mod file;
+mod limits;
 mod names;
 mod part;
 mod tree;
 mod volume;
 
 pub use file::{FileEntry, FileId, Files, Kind};
+pub use limits::{MAX_NAMES, MAX_PATH_BYTES, names_fit};
 pub use names::{Names, PathFault, join_path};
 pub use part::{Part, Parts, Role};
 pub use rx_ranges::MAX_PATH;

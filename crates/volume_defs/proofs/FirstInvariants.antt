@@ -12,6 +12,7 @@ use Rattle.range_defs.proofs.RangeLaws.{longest_ranges_ends}
 use Rattle.image_defs.proofs.Looks.{bind_gives, check_gives}
 use Rattle.rx_tree.specs.Order.{HaveRisingIds, AreInVolumes}
 use Rattle.rx_tree.specs.Within.{IsWithin, AreFilesWithin}
+use Rattle.rx_tree.specs.NameLimits.{has_few_names}
 use Rattle.rx_tree.specs.declared.file.FileEntry.{FileEntry}
 use Rattle.ufs_defs.specs.Superblock.{superblock_of}
 use Rattle.ufs_defs.specs.Directory.{Entry}
@@ -35,6 +36,7 @@ pub record IsOfFirstForm (size : ℕ) (files : List FileEntry) : Type 0 where
   pub good_root : is_first_root size superblock root ≡ true
   pub good_entries : list_all is_first_entry entries ≡ true
   pub good_files : AreFilesOf size superblock entries (named_inodes entries) others
+  pub few_names : has_few_names (root_file superblock root ∷ others) ≡ true
   pub whole : files ≡ root_file superblock root ∷ others
 
 same_value : {X : Type 0} (a b : X) → (let first : Result X FirstFault = Ok a in let second : Result X FirstFault = Ok b in first ≡ second) → a ≡ b
@@ -89,6 +91,7 @@ below_gives image size superblock files long good gives =
     let entries = bind_gives image (first_entries superblock root.0) _ files root.2 in
     let named = check_gives image (list_all is_first_entry entries.0) NotFirstForm _ files entries.2 in
     let found = bind_gives image (each (first_file size superblock entries.0) (named_inodes entries.0)) _ files named.1 in
+    let few = check_gives image (has_few_names (root_file superblock root.0 ∷ found.0)) NotFirstForm (λ x. Done (root_file superblock root.0 ∷ found.0)) files found.2 in
     record {
       superblock = superblock;
       root = root.0;
@@ -99,7 +102,8 @@ below_gives image size superblock files long good gives =
       good_root = root_gives image size superblock root.0 root.1;
       good_entries = named.0;
       good_files = files_give image size superblock entries.0 (named_inodes entries.0) found.0 found.1;
-      whole = sym (same_value (root_file superblock root.0 ∷ found.0) files found.2);
+      few_names = few.0;
+      whole = sym (same_value (root_file superblock root.0 ∷ found.0) files few.1);
     }
 
 -- where the definition gives files, the tests made sure of all that
@@ -146,6 +150,13 @@ first_tree_in_volume image size files gives =
     let found = first_files_give image size files gives in
     let P : List FileEntry → Type 0 = λ list. AreInVolumes (whole_volume size ∷ []) list in
     subst P (sym found.whole) (first_files_in_volume size found.superblock found.root found.entries found.others (whole_volume size ∷ []) refl found.good_files)
+
+-- they have few enough names
+pub first_tree_few_names : (image : List ℕ) (size : ℕ) (files : List FileEntry) → result_of image (first_files size) ≡ Ok files → has_few_names files ≡ true
+first_tree_few_names image size files gives =
+    let found = first_files_give image size files gives in
+    let P : List FileEntry → Type 0 = λ list. has_few_names list ≡ true in
+    subst P (sym found.whole) found.few_names
 
 -- and are whole
 pub first_tree_whole : (image : List ℕ) (size : ℕ) (files : List FileEntry) → result_of image (first_files size) ≡ Ok files → All IsWhole files

@@ -20,6 +20,7 @@ use Rattle.ufs_defs.specs.declared.inode.Inode.{Inode}
 use Rattle.rx_tree.specs.declared.volume.FsKind.{FsKind}
 use Rattle.rx_tree.specs.declared.volume.FsKind.TheVariants.{Ntfs, Ufs1, Ufs2, HfsPlus}
 use Rattle.volume_defs.specs.Kind.{is_ntfs, is_hfs, is_ufs1, is_ufs2, or_rest, kind_of, kind_behind_ntfs, kind_behind_hfs, kind_behind_ufs1}
+use Rattle.rx_tree.specs.NameLimits.{has_few_names}
 use Rattle.volume_defs.specs.FirstForm.{FirstFault, NotFirstForm, demand, first_kind, is_first_length, is_first_kind, is_first_superblock, is_first_inode, is_first_root, is_first_entry, is_first_file, first_superblock, first_inode, first_root, first_entries, first_file, named_inodes, named_file, root_file, listed, files_below, first_files}
 use Rattle.volume_defs.specs.FirstTree.{guard_of}
 use Rattle.volume_defs.proofs.FirstKept.{first_inode_within, root_content_within}
@@ -56,9 +57,10 @@ below_looks image size superblock =
     looks_bind (EndsBy size) image (first_root size superblock) _ (root_looks image size superblock)
     (λ root is. looks_bind (EndsBy size) image (first_entries superblock root) _ (entries_look image size superblock root (root_gives image size superblock root is))
     (λ entries listing. looks_check (EndsBy size) image (list_all is_first_entry entries) NotFirstForm _
-    (λ named. looks_bind (EndsBy size) image (each (first_file size superblock entries) (named_inodes entries)) (λ files. Done (root_file superblock root ∷ files))
+    (λ named. looks_bind (EndsBy size) image (each (first_file size superblock entries) (named_inodes entries)) _
     (looks_each (EndsBy size) image (first_file size superblock entries) (named_inodes entries) (λ number. file_looks image size superblock entries number))
-    (λ files are. looks_done (EndsBy size) image _))))
+    (λ files are. looks_check (EndsBy size) image (has_few_names (root_file superblock root ∷ files)) NotFirstForm (λ x. Done (root_file superblock root ∷ files))
+    (λ few. looks_done (EndsBy size) image _)))))
 
 -- what lies behind a magic is looked at only where it doesn't fit
 rest_looks : {E : Type 0} (P : Range → Type 0) (image : List ℕ) (fits : Bool) (kind : FsKind) (rest : Ask E (Option FsKind)) → LooksAt P image rest → LooksAt P image (or_rest fits kind rest)

@@ -7,6 +7,7 @@ use Rattle.range_defs.specs.Places.{covers, longest_ranges}
 use Rattle.image_defs.specs.Ask.{result_of, visits, each}
 use Rattle.image_defs.specs.Runs.{with_value}
 use Rattle.rx_tree.specs.Within.{AreRangesWithin}
+use Rattle.rx_tree.specs.NameLimits.{has_few_names}
 use Rattle.rx_tree.specs.declared.file.FileEntry.{FileEntry}
 use Rattle.ufs_defs.specs.Directory.{Entry}
 use Rattle.ufs_defs.specs.Blocks.{block_place}
@@ -14,7 +15,7 @@ use Rattle.ufs_defs.specs.declared.superblock.Superblock.{Superblock}
 use Rattle.ufs_defs.specs.declared.inode.Inode.{Inode}
 use Rattle.volume_defs.specs.FirstForm.{NotFirstForm, is_first_length, first_kind, is_first_inode, is_first_entry, first_superblock, first_root, first_entries, first_file, named_inodes, root_file, files_below, first_files}
 use Rattle.volume_defs.specs.FirstReader.{probe_places, inode_range}
-use Rattle.volume_defs.proofs.FirstReader.{run_first_files, run_first_files_length, run_first_files_kind, run_first_files_no_superblock, run_files_below, run_files_below_no_root, run_files_below_no_entries, run_files_below_bad_entry, run_files_below_no_file, visits_first_files, visits_files_below, visits_first_root, visits_first_inode, visits_first_entries, visits_found_files}
+use Rattle.volume_defs.proofs.FirstReader.{run_first_files, run_first_files_length, run_first_files_kind, run_first_files_no_superblock, run_files_below, run_files_below_no_root, run_files_below_no_entries, run_files_below_bad_entry, run_files_below_no_file, run_files_below_many_names, visits_first_files, visits_files_below, visits_first_root, visits_first_inode, visits_first_entries, visits_found_files}
 use Rattle.volume_defs.specs.FirstTree.{guard_of, tree_of, first_tree}
 use Rattle.volume_defs.specs.FirstRanges.{IsVolume, first_ranges}
 
@@ -36,13 +37,14 @@ pub record IsFound (image : List ℕ) (size : ℕ) (superblock : Superblock) (ro
   pub read_entries : result_of image (first_entries superblock root) ≡ Ok entries
   pub good_entries : list_all is_first_entry entries ≡ true
   pub read_files : result_of image (each (first_file size superblock entries) (named_inodes entries)) ≡ Ok files
+  pub few_names : has_few_names (root_file superblock root ∷ files) ≡ true
 
 -- then these are the files
 pub found_files : (image : List ℕ) (size : ℕ) (superblock : Superblock) (root : Inode) (entries : List Entry) (files : List FileEntry) → IsFound image size superblock root entries files
     → result_of image (first_files size) ≡ Ok (root_file superblock root ∷ files)
 found_files image size superblock root entries files found =
     run_first_files image size superblock found.volume.long found.volume.kind found.volume.read_superblock
-    ∙ run_files_below image size superblock root entries files found.read_root found.read_entries found.good_entries found.read_files
+    ∙ run_files_below image size superblock root entries files found.read_root found.read_entries found.good_entries found.read_files found.few_names
 
 -- and these the ranges
 pub found_ranges : (image : List ℕ) (size : ℕ) (superblock : Superblock) (root : Inode) (entries : List Entry) (files : List FileEntry) → IsFound image size superblock root entries files
@@ -109,3 +111,9 @@ pub no_file_tree : (image : List ℕ) (size : ℕ) (superblock : Superblock) (ro
     → result_of image (each (first_file size superblock entries) (named_inodes entries)) ≡ Err NotFirstForm → first_tree image ≡ Err NotFirstForm
 no_file_tree image size superblock root entries same volume is listing named none =
     no_files_tree image size superblock same volume (run_files_below_no_file image size superblock root entries is listing named none)
+
+pub many_names_tree : (image : List ℕ) (size : ℕ) (superblock : Superblock) (root : Inode) (entries : List Entry) (files : List FileEntry) → length image ≡ size → IsVolume image size superblock
+    → result_of image (first_root size superblock) ≡ Ok root → result_of image (first_entries superblock root) ≡ Ok entries → list_all is_first_entry entries ≡ true
+    → result_of image (each (first_file size superblock entries) (named_inodes entries)) ≡ Ok files → has_few_names (root_file superblock root ∷ files) ≡ false → first_tree image ≡ Err NotFirstForm
+many_names_tree image size superblock root entries files same volume is listing named are many =
+    no_files_tree image size superblock same volume (run_files_below_many_names image size superblock root entries files is listing named are many)

@@ -5,7 +5,7 @@ use Rattle.std.proofs.Common.{ap, sym, ◌∙◌}
 use Rattle.bytes_defs.specs.Bytes.{part}
 use Rattle.image_defs.specs.Ask.{Ask, Done, Stop, result_of, visits, ◌>>=◌, each}
 use Rattle.image_defs.proofs.Looks.{bind_gives, check_gives}
-use Rattle.image_defs.proofs.Runs.{result_bind_ok, result_bind_err, result_check_true, result_check_false, result_given, visits_next, visits_bind_done, visits_bind_ok, visits_bind_quiet, visits_check_quiet, visits_check_true, visits_each, visits_given}
+use Rattle.image_defs.proofs.Runs.{result_bind_ok, result_bind_err, result_check_true, result_check_false, result_given, visits_next, visits_bind_ok, visits_bind_quiet, visits_check_quiet, visits_check_true, visits_each, visits_given}
 use Rattle.rx_tree.specs.declared.file.FileEntry.{FileEntry}
 use Rattle.ufs_defs.specs.Superblock.{superblock_of}
 use Rattle.ufs_defs.specs.Inode.{inode_place, inode_of}
@@ -17,6 +17,7 @@ use Rattle.rx_tree.specs.declared.volume.FsKind.{FsKind}
 use Rattle.rx_tree.specs.declared.volume.FsKind.TheVariants.{Ntfs, Ufs1, Ufs2, HfsPlus}
 use Rattle.volume_defs.specs.Kind.{is_ntfs, is_hfs, is_ufs1, is_ufs2, or_rest, kind_of, kind_behind_ntfs, kind_behind_hfs, kind_behind_ufs1}
 use Rattle.volume_defs.proofs.EachRun.{each_first_gives}
+use Rattle.rx_tree.specs.NameLimits.{has_few_names}
 use Rattle.volume_defs.specs.FirstForm.{FirstFault, NotFirstForm, demand, is_first_length, is_first_kind, first_kind, is_first_superblock, is_first_inode, is_first_root, is_first_entry, is_first_file, first_superblock, first_inode, first_root, first_entries, first_file, listed, named_inodes, named_file, root_file, files_below, first_files}
 use Rattle.volume_defs.specs.FirstReader.{inode_range, probe_places}
 
@@ -165,13 +166,14 @@ visits_found_files image size superblock entries (number ∷ numbers) files are 
 pub run_files_below : (image : List ℕ) (size : ℕ) (superblock : Superblock) (root : Inode) (entries : List Entry) (files : List FileEntry)
     → result_of image (first_root size superblock) ≡ Ok root → result_of image (first_entries superblock root) ≡ Ok entries → list_all is_first_entry entries ≡ true
     → result_of image (each (first_file size superblock entries) (named_inodes entries)) ≡ Ok files
-    → result_of image (files_below size superblock) ≡ Ok (root_file superblock root ∷ files)
+    → has_few_names (root_file superblock root ∷ files) ≡ true → result_of image (files_below size superblock) ≡ Ok (root_file superblock root ∷ files)
 unfolding files_below
-run_files_below image size superblock root entries files is listing named are =
+run_files_below image size superblock root entries files is listing named are few =
     result_bind_ok image (first_root size superblock) _ root is
     ∙ result_bind_ok image (first_entries superblock root) _ entries listing
     ∙ result_check_true image (list_all is_first_entry entries) NotFirstForm _ named
     ∙ result_bind_ok image (each (first_file size superblock entries) (named_inodes entries)) _ files are
+    ∙ result_check_true image (has_few_names (root_file superblock root ∷ files)) NotFirstForm _ few
 
 pub run_files_below_no_root : (image : List ℕ) (size : ℕ) (superblock : Superblock) → result_of image (first_root size superblock) ≡ Err NotFirstForm → result_of image (files_below size superblock) ≡ Err NotFirstForm
 unfolding files_below
@@ -203,6 +205,18 @@ run_files_below_no_file image size superblock root entries is listing named none
     ∙ result_check_true image (list_all is_first_entry entries) NotFirstForm _ named
     ∙ result_bind_err image (each (first_file size superblock entries) (named_inodes entries)) _ NotFirstForm none
 
+pub run_files_below_many_names : (image : List ℕ) (size : ℕ) (superblock : Superblock) (root : Inode) (entries : List Entry) (files : List FileEntry)
+    → result_of image (first_root size superblock) ≡ Ok root → result_of image (first_entries superblock root) ≡ Ok entries → list_all is_first_entry entries ≡ true
+    → result_of image (each (first_file size superblock entries) (named_inodes entries)) ≡ Ok files
+    → has_few_names (root_file superblock root ∷ files) ≡ false → result_of image (files_below size superblock) ≡ Err NotFirstForm
+unfolding files_below
+run_files_below_many_names image size superblock root entries files is listing named are many =
+    result_bind_ok image (first_root size superblock) _ root is
+    ∙ result_bind_ok image (first_entries superblock root) _ entries listing
+    ∙ result_check_true image (list_all is_first_entry entries) NotFirstForm _ named
+    ∙ result_bind_ok image (each (first_file size superblock entries) (named_inodes entries)) _ files are
+    ∙ result_check_false image (has_few_names (root_file superblock root ∷ files)) NotFirstForm _ many
+
 pub visits_files_below : (image : List ℕ) (size : ℕ) (superblock : Superblock) (root : Inode) (entries : List Entry)
     → result_of image (first_root size superblock) ≡ Ok root → result_of image (first_entries superblock root) ≡ Ok entries → list_all is_first_entry entries ≡ true
     → visits image (files_below size superblock)
@@ -214,7 +228,8 @@ visits_files_below image size superblock root entries is listing named =
     (visits_bind_ok image (first_entries superblock root) _ entries listing
     ∙ ap (λ ranges. visits image (first_entries superblock root) ++ ranges)
     (visits_check_true image (list_all is_first_entry entries) NotFirstForm _ named
-    ∙ visits_bind_done image (each (first_file size superblock entries) (named_inodes entries)) (λ files. root_file superblock root ∷ files)))
+    ∙ visits_bind_quiet image (each (first_file size superblock entries) (named_inodes entries)) _
+    (λ files. visits_check_quiet image (has_few_names (root_file superblock root ∷ files)) NotFirstForm (λ x. Done (root_file superblock root ∷ files)) refl)))
 
 -- ---- the files of an image
 

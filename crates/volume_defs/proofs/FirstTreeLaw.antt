@@ -7,7 +7,7 @@ use Rattle.rx_tree.specs.TreeValue.{TreeValue}
 use Rattle.rx_tree.specs.declared.file.FileEntry.{FileEntry}
 use Rattle.volume_defs.specs.FirstForm.{FirstFault, first_files}
 use Rattle.volume_defs.specs.FirstTree.{guard_of, tree_of, first_tree}
-use Rattle.volume_defs.proofs.FirstInvariants.{first_tree_within, first_tree_rises, first_tree_in_volume, first_tree_whole}
+use Rattle.volume_defs.proofs.FirstInvariants.{first_tree_within, first_tree_rises, first_tree_in_volume, first_tree_few_names, first_tree_whole}
 use Rattle.volume_defs.specs.FirstTreeLaw.{FirstTreeLaw, IsTree}
 
 tree_gives : (image : List ℕ) (tree : TreeValue) (files : Result (List FileEntry) FirstFault) → result_of image (first_files (length image)) ≡ files
@@ -20,6 +20,7 @@ tree_gives image tree (Ok files) is gives =
       volumes = (tt, tt);
       rising = first_tree_rises image (length image) files is;
       in_volumes = first_tree_in_volume image (length image) files is;
+      few_names = first_tree_few_names image (length image) files is;
       whole = first_tree_whole image (length image) files is;
     })
 tree_gives image tree (Err fault) is gives = absurd cc

@@ -16,6 +16,7 @@ use Rattle.ufs_defs.specs.Inode.{inode_place, inode_of}
 use Rattle.ufs_defs.specs.Directory.{entries_of, entries_from, entries_within, is_entry}
 use Rattle.ufs_defs.specs.Blocks.{block_place, pieces_within, block_pieces, content_pieces, content_slack, content_of}
 use Rattle.volume_defs.specs.Kind.{kind_of, kind_behind_ntfs, kind_behind_hfs, kind_behind_ufs1}
+use Rattle.rx_tree.specs.NameLimits.{has_few_names}
 use Rattle.volume_defs.specs.FirstForm.{FirstFault, NotFirstForm, first_kind, first_files, files_below, first_file, first_entries, first_root, first_inode, first_superblock, is_first_superblock, is_first_inode, has_block, has_blocks, is_first_root, is_first_entry, is_first_file}
 use Rattle.order_defs.specs.Sorted.{sorted_by_order, distinct}
 use Rattle.volume_defs.proofs.ImageT.{zeros_but, image_t}
@@ -106,7 +107,7 @@ files_t =
     ∷ []
 
 pub run_t : result_of image_t (first_files 262144) ≡ Ok files_t
-unfolding image_t part number_at signed_at superblock_of wrong_field inode_place inode_of entries_from entries_within is_entry block_place pieces_within block_pieces content_pieces content_slack content_of sorted_by_order distinct kind_of kind_behind_ntfs kind_behind_hfs kind_behind_ufs1 first_kind first_files files_below first_file first_entries first_root first_inode first_superblock is_first_superblock is_first_inode has_block has_blocks is_first_root is_first_entry is_first_file is_block_size is_fragment_size is_fragment_count is_inode_count ones
+unfolding image_t part number_at signed_at superblock_of wrong_field inode_place inode_of entries_from entries_within is_entry block_place pieces_within block_pieces content_pieces content_slack content_of sorted_by_order distinct kind_of kind_behind_ntfs kind_behind_hfs kind_behind_ufs1 first_kind first_files files_below has_few_names first_file first_entries first_root first_inode first_superblock is_first_superblock is_first_inode has_block has_blocks is_first_root is_first_entry is_first_file is_block_size is_fragment_size is_fragment_count is_inode_count ones
 run_t = refl
 
 -- the bytes on which that rests
@@ -124,31 +125,31 @@ visits_of_t =
     ∷ []
 
 pub visits_t : visits image_t (first_files 262144) ≡ visits_of_t
-unfolding image_t part number_at signed_at superblock_of wrong_field inode_place inode_of entries_from entries_within is_entry block_place pieces_within block_pieces content_pieces content_slack content_of sorted_by_order distinct kind_of kind_behind_ntfs kind_behind_hfs kind_behind_ufs1 first_kind first_files files_below first_file first_entries first_root first_inode first_superblock is_first_superblock is_first_inode has_block has_blocks is_first_root is_first_entry is_first_file is_block_size is_fragment_size is_fragment_count is_inode_count ones
+unfolding image_t part number_at signed_at superblock_of wrong_field inode_place inode_of entries_from entries_within is_entry block_place pieces_within block_pieces content_pieces content_slack content_of sorted_by_order distinct kind_of kind_behind_ntfs kind_behind_hfs kind_behind_ufs1 first_kind first_files files_below has_few_names first_file first_entries first_root first_inode first_superblock is_first_superblock is_first_inode has_block has_blocks is_first_root is_first_entry is_first_file is_block_size is_fragment_size is_fragment_count is_inode_count ones
 visits_t = refl
 
 -- without its last byte, the file's block isn't whole
 cut_block_t : result_of (take 90111 image_t) (first_files 90111) ≡ Err NotFirstForm
-unfolding image_t part number_at signed_at superblock_of wrong_field inode_place inode_of entries_from entries_within is_entry block_place pieces_within block_pieces content_pieces content_slack content_of sorted_by_order distinct kind_of kind_behind_ntfs kind_behind_hfs kind_behind_ufs1 first_kind first_files files_below first_file first_entries first_root first_inode first_superblock is_first_superblock is_first_inode has_block has_blocks is_first_root is_first_entry is_first_file is_block_size is_fragment_size is_fragment_count is_inode_count ones
+unfolding image_t part number_at signed_at superblock_of wrong_field inode_place inode_of entries_from entries_within is_entry block_place pieces_within block_pieces content_pieces content_slack content_of sorted_by_order distinct kind_of kind_behind_ntfs kind_behind_hfs kind_behind_ufs1 first_kind first_files files_below has_few_names first_file first_entries first_root first_inode first_superblock is_first_superblock is_first_inode has_block has_blocks is_first_root is_first_entry is_first_file is_block_size is_fragment_size is_fragment_count is_inode_count ones
 cut_block_t = refl
 
 -- cut inside what the kind rests on, or empty
 cut_t : result_of (take 1000 image_t) (first_files 1000) ≡ Err NotFirstForm
-unfolding image_t part number_at signed_at superblock_of wrong_field inode_place inode_of entries_from entries_within is_entry block_place pieces_within block_pieces content_pieces content_slack content_of sorted_by_order distinct kind_of kind_behind_ntfs kind_behind_hfs kind_behind_ufs1 first_kind first_files files_below first_file first_entries first_root first_inode first_superblock is_first_superblock is_first_inode has_block has_blocks is_first_root is_first_entry is_first_file is_block_size is_fragment_size is_fragment_count is_inode_count ones
+unfolding image_t part number_at signed_at superblock_of wrong_field inode_place inode_of entries_from entries_within is_entry block_place pieces_within block_pieces content_pieces content_slack content_of sorted_by_order distinct kind_of kind_behind_ntfs kind_behind_hfs kind_behind_ufs1 first_kind first_files files_below has_few_names first_file first_entries first_root first_inode first_superblock is_first_superblock is_first_inode has_block has_blocks is_first_root is_first_entry is_first_file is_block_size is_fragment_size is_fragment_count is_inode_count ones
 cut_t = refl
 
 empty_t : result_of [] (first_files 0) ≡ Err NotFirstForm
-unfolding image_t part number_at signed_at superblock_of wrong_field inode_place inode_of entries_from entries_within is_entry block_place pieces_within block_pieces content_pieces content_slack content_of sorted_by_order distinct kind_of kind_behind_ntfs kind_behind_hfs kind_behind_ufs1 first_kind first_files files_below first_file first_entries first_root first_inode first_superblock is_first_superblock is_first_inode has_block has_blocks is_first_root is_first_entry is_first_file is_block_size is_fragment_size is_fragment_count is_inode_count ones
+unfolding image_t part number_at signed_at superblock_of wrong_field inode_place inode_of entries_from entries_within is_entry block_place pieces_within block_pieces content_pieces content_slack content_of sorted_by_order distinct kind_of kind_behind_ntfs kind_behind_hfs kind_behind_ufs1 first_kind first_files files_below has_few_names first_file first_entries first_root first_inode first_superblock is_first_superblock is_first_inode has_block has_blocks is_first_root is_first_entry is_first_file is_block_size is_fragment_size is_fragment_count is_inode_count ones
 empty_t = refl
 
 -- the first pointer of inode 3 leads to the block at the image's end
 pointer_t : result_of (slice_set image_t 74608 64) (first_files 262144) ≡ Err NotFirstForm
-unfolding image_t part number_at signed_at superblock_of wrong_field inode_place inode_of entries_from entries_within is_entry block_place pieces_within block_pieces content_pieces content_slack content_of sorted_by_order distinct kind_of kind_behind_ntfs kind_behind_hfs kind_behind_ufs1 first_kind first_files files_below first_file first_entries first_root first_inode first_superblock is_first_superblock is_first_inode has_block has_blocks is_first_root is_first_entry is_first_file is_block_size is_fragment_size is_fragment_count is_inode_count ones
+unfolding image_t part number_at signed_at superblock_of wrong_field inode_place inode_of entries_from entries_within is_entry block_place pieces_within block_pieces content_pieces content_slack content_of sorted_by_order distinct kind_of kind_behind_ntfs kind_behind_hfs kind_behind_ufs1 first_kind first_files files_below has_few_names first_file first_entries first_root first_inode first_superblock is_first_superblock is_first_inode has_block has_blocks is_first_root is_first_entry is_first_file is_block_size is_fragment_size is_fragment_count is_inode_count ones
 pointer_t = refl
 
 -- the superblock tells of blocks without a byte
 block_size_t : result_of (slice_set image_t 65585 0) (first_files 262144) ≡ Err NotFirstForm
-unfolding image_t part number_at signed_at superblock_of wrong_field inode_place inode_of entries_from entries_within is_entry block_place pieces_within block_pieces content_pieces content_slack content_of sorted_by_order distinct kind_of kind_behind_ntfs kind_behind_hfs kind_behind_ufs1 first_kind first_files files_below first_file first_entries first_root first_inode first_superblock is_first_superblock is_first_inode has_block has_blocks is_first_root is_first_entry is_first_file is_block_size is_fragment_size is_fragment_count is_inode_count ones
+unfolding image_t part number_at signed_at superblock_of wrong_field inode_place inode_of entries_from entries_within is_entry block_place pieces_within block_pieces content_pieces content_slack content_of sorted_by_order distinct kind_of kind_behind_ntfs kind_behind_hfs kind_behind_ufs1 first_kind first_files files_below has_few_names first_file first_entries first_root first_inode first_superblock is_first_superblock is_first_inode has_block has_blocks is_first_root is_first_entry is_first_file is_block_size is_fragment_size is_fragment_count is_inode_count ones
 block_size_t = refl
 
 block_size_field_t : wrong_field (superblock_of (part (slice_set image_t 65585 0) 65536 1376)) ≡ Some 48

@@ -3,6 +3,7 @@
 use Rattle.std.specs.Prelude.{ℕ, zero, suc, ◌+◌, ◌*◌, ◌%◌, pos, int_lt, Bool, true, false, not, ◌&&◌, ◌==◌, nat_lt, nat_le, is_none, Option, Some, None, Result, Ok, Err, List, [], ◌∷◌, length, map, get_or}
 use Rattle.std.specs.List.{filter, list_all}
 use Rattle.image_defs.specs.Ask.{Ask, Done, look, check, given, each, ◌>>=◌, ◌>>◌}
+use Rattle.rx_tree.specs.NameLimits.{has_few_names}
 use Rattle.rx_tree.specs.Path.{joined_path}
 use Rattle.rx_tree.specs.declared.file.FileEntry.{FileEntry}
 use Rattle.rx_tree.specs.declared.file.Kind.TheVariants.{File, Dir}
@@ -164,13 +165,14 @@ first_file size superblock entries number = do
   demand (is_first_file size superblock inode)
   Done (named_file superblock entries number inode)
 
--- the files of a UFS2 with a good superblock: the root, and the others by rising number
+-- the files of a UFS2 with a good superblock: the root, and the others by rising number; they have few enough names for a tree
 unfoldable pub files_below : ℕ → Superblock → Ask FirstFault (List FileEntry)
 files_below size superblock = do
   root ← first_root size superblock
   entries ← first_entries superblock root
   demand (list_all is_first_entry entries)
   files ← each (first_file size superblock entries) (named_inodes entries)
+  demand (has_few_names (root_file superblock root ∷ files))
   Done (root_file superblock root ∷ files)
 
 -- the files of an image of the first form that has `size` bytes

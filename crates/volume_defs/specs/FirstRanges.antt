@@ -1,5 +1,5 @@
 -- The ranges of an image of the first form at which one looks for its files, and its tree where they are known.
-use Rattle.std.specs.Prelude.{◌≡◌, ℕ, ◌+◌, true, Ok, List, ◌∷◌, ◌++◌, map}
+use Rattle.std.specs.Prelude.{◌≡◌, ℕ, true, Ok, List, ◌∷◌, ◌++◌, map}
 use Rattle.range_defs.specs.declared.Range.{Range}
 use Rattle.image_defs.specs.Ask.{result_of}
 use Rattle.ufs_defs.specs.Blocks.{block_place}
