@@ -5,6 +5,7 @@ use Rattle.std.specs.Result.{IsErr, IsErrAnd}
 use Rattle.range_defs.specs.Places.{covers, longest_ranges}
 use Rattle.image_defs.specs.Ask.{result_of, each}
 use Rattle.rx_tree.specs.TreeValue.{TreeValue}
+use Rattle.rx_tree.specs.NameLimits.{has_few_names}
 use Rattle.rx_tree.specs.declared.file.FileEntry.{FileEntry}
 use Rattle.ufs_defs.specs.Directory.{Entry, entries_of}
 use Rattle.ufs_defs.specs.declared.superblock.Superblock.{Superblock}
@@ -12,7 +13,7 @@ use Rattle.ufs_defs.specs.declared.inode.Inode.{Inode}
 use Rattle.volume_defs.specs.FirstForm.{NotFirstForm, is_first_length, is_first_inode, is_first_entry, first_kind, first_superblock, first_root, first_file, listed, named_inodes, root_file}
 use Rattle.volume_defs.specs.FirstTree.{first_tree, tree_of}
 use Rattle.volume_defs.specs.FirstRanges.{IsVolume, first_ranges}
-use Rattle.volume_defs.proofs.FirstRanges.{found_tree, no_length_tree, no_kind_tree, no_superblock_tree, no_root_tree, no_entries_tree, bad_entry_tree, no_file_tree}
+use Rattle.volume_defs.proofs.FirstRanges.{found_tree, no_length_tree, no_kind_tree, no_superblock_tree, no_root_tree, no_entries_tree, bad_entry_tree, no_file_tree, many_names_tree}
 use Rattle.first_reader.specs.Gives.{Gives, Refuses}
 use Rattle.first_reader.specs.declared.fault.FirstReadFault.{FirstReadFault}
 use Rattle.first_reader.proofs.Told.{ReadsContent, HasEntries, told_then, gives_refusal, entries_read}
@@ -83,13 +84,25 @@ files_wrong (Some image) later size superblock root entries numbers result fault
     (λ none. no_file_tree image size superblock root entries same volume has.0 has.1 named (ap (λ list. result_of image (each (first_file size superblock entries) list)) (sym are) ∙ none))
     (told_then (λ held. Refuses fault (result_of held (each (first_file size superblock entries) numbers))) image later is refuses)
 
-pub tree_found : (told later : Option (List ℕ)) (size : ℕ) (superblock : Superblock) (root : Inode) (entries : List Entry) (numbers : List ℕ) (files : List FileEntry) (tree : TreeValue)
+pub names_wrong : (told later : Option (List ℕ)) (size : ℕ) (superblock : Superblock) (root : Inode) (entries : List Entry) (numbers : List ℕ) (files all : List FileEntry)
+    → later ≡ told → IfSome told (HasEntries size superblock root entries) → list_all is_first_entry entries ≡ true → numbers ≡ named_inodes entries
+    → IfSome later (λ image. result_of image (each (first_file size superblock entries) numbers) ≡ Ok files) → all ≡ root_file superblock root ∷ files → has_few_names all ≡ false
+    → IfSome told (OfVolume size superblock (λ image. first_tree image ≡ Err NotFirstForm))
+names_wrong None later size superblock root entries numbers files all is has named are of_files whole many = tt
+names_wrong (Some image) later size superblock root entries numbers files all is has named are of_files whole many =
+    λ same volume. many_names_tree image size superblock root entries files same volume has.0 has.1 named
+    (ap (λ list. result_of image (each (first_file size superblock entries) list)) (sym are)
+    ∙ told_then (λ held. result_of held (each (first_file size superblock entries) numbers) ≡ Ok files) image later is of_files)
+    (sym (ap has_few_names whole) ∙ many)
+
+pub tree_found : (told later : Option (List ℕ)) (size : ℕ) (superblock : Superblock) (root : Inode) (entries : List Entry) (numbers : List ℕ) (files all : List FileEntry) (tree : TreeValue)
     → later ≡ told → IfSome told (HasEntries size superblock root entries) → list_all is_first_entry entries ≡ true → numbers ≡ named_inodes entries → is_first_inode size superblock 2 ≡ true
     → IfSome later (λ image. result_of image (each (first_file size superblock entries) numbers) ≡ Ok files)
-    → tree ≡ tree_of size (longest_ranges (covers (first_ranges superblock root numbers)) 0 size) (root_file superblock root ∷ files)
+    → all ≡ root_file superblock root ∷ files → has_few_names all ≡ true
+    → tree ≡ tree_of size (longest_ranges (covers (first_ranges superblock root numbers)) 0 size) all
     → IfSome told (OfVolume size superblock (λ image. first_tree image ≡ Ok tree))
-tree_found None later size superblock root entries numbers files tree is has named are has_root of_files made = tt
-tree_found (Some image) later size superblock root entries numbers files tree is has named are has_root of_files made =
+tree_found None later size superblock root entries numbers files all tree is has named are has_root of_files whole few made = tt
+tree_found (Some image) later size superblock root entries numbers files all tree is has named are has_root of_files whole few made =
     λ same volume.
     found_tree image size superblock root entries files same
     (record {
@@ -101,6 +114,8 @@ tree_found (Some image) later size superblock root entries numbers files tree is
       read_files =
           ap (λ list. result_of image (each (first_file size superblock entries) list)) (sym are)
           ∙ told_then (λ held. result_of held (each (first_file size superblock entries) numbers) ≡ Ok files) image later is of_files;
+      few_names = sym (ap has_few_names whole) ∙ few;
     })
     ∙ ap (λ list. Ok (tree_of size (longest_ranges (covers (first_ranges superblock root list)) 0 size) (root_file superblock root ∷ files))) (sym are)
+    ∙ ap (λ list. Ok (tree_of size (longest_ranges (covers (first_ranges superblock root numbers)) 0 size) list)) (sym whole)
     ∙ ap Ok (sym made)

@@ -30,9 +30,9 @@ use found::{read_content, read_files, read_root, read_superblock};
 use kind::read_kind;
 use names::named_inodes;
 use rx_store::{Area, Store};
-use rx_tree::Tree;
+use rx_tree::{Tree, names_fit};
 use std::alloc::Global;
-use tree::tree_from;
+use tree::{files_from, tree_from};
 use ufs_defs::superblock::Superblock;
 
 /// The tree of the image, where that has the first form.
@@ -94,6 +94,10 @@ fn read_volume<S: Store>(
     }
     let named = named_inodes(alloc, entries)?;
     let numbers = named.as_slice();
-    let files = read_files(alloc, store, size, superblock, entries, numbers)?;
-    Ok(tree_from(alloc, size, superblock, &root, entries, numbers, files)?)
+    let others = read_files(alloc, store, size, superblock, entries, numbers)?;
+    let files = files_from(alloc, size, superblock, &root, entries, others)?;
+    if !names_fit(files.items()) {
+        return Err(FirstReadFault::OtherForm);
+    }
+    Ok(tree_from(alloc, size, superblock, &root, numbers, files)?)
 }

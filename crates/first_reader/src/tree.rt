@@ -1,8 +1,10 @@
 //! The tree of an image of the first form.
-ghost use Rattle.std.specs.Prelude.{◌≡◌, ◌+◌, ◌<◌, ◌≤◌, true, IfOk, [], ◌∷◌, ◌++◌, map};
+ghost use Rattle.std.specs.Prelude.{◌≡◌, ◌+◌, ◌<◌, ◌≤◌, true, IfOk, OnOk, [], ◌∷◌, ◌++◌, map};
 ghost use Rattle.std.specs.List.{All, list_all};
 ghost use Rattle.range_defs.specs.Places.{covers, longest_ranges};
-ghost use Rattle.rx_tree.specs.Within.{AreRangesWithin};
+ghost use Rattle.rx_tree.specs.Within.{AreRangesWithin, AreFilesWithin};
+ghost use Rattle.rx_tree.specs.Order.{AreInVolumes};
+ghost use Rattle.rx_tree.specs.NameLimits.{has_few_names};
 ghost use Rattle.volume_defs.specs.FirstForm.{is_first_superblock, is_first_inode, is_first_root, is_first_entry, root_path, root_file, named_file, named_inodes};
 ghost use Rattle.volume_defs.specs.FoundFiles.{AreFilesOf};
 ghost use Rattle.volume_defs.specs.FirstReader.{inode_range};
@@ -184,7 +186,7 @@ fn no_ranges(alloc: Global) -> Result<RangeList, NoMemory>
 }
 
 /// The root and the files that it names.
-fn files_from(
+pub(crate) fn files_from(
     alloc: Global,
     size: u64,
     superblock: &Superblock,
@@ -197,7 +199,9 @@ fn files_from(
     requires root { is_first_root size superblock.now root.now ≡ true }
     requires named { list_all is_first_entry entries.now ≡ true }
     requires files { AreFilesOf size superblock.now entries.now (named_inodes entries.now) files.items }
-    ensures { IfOk result (λ all. all ≡ root_file superblock.now root.now ∷ files.items) }
+    ensures files { IfOk result (λ all. all ≡ root_file superblock.now root.now ∷ files.items) }
+    ensures within { IfOk result (AreFilesWithin size) }
+    ensures in_volume { IfOk result (AreInVolumes (whole_volume size ∷ [])) }
 {
     files.insert(0, root_entry(alloc, size, superblock, root)?)?;
     Ok(Files::from_vec(files))
@@ -222,28 +226,26 @@ pub(crate) fn tree_from(
     size: u64,
     superblock: &Superblock,
     root: &Inode,
-    entries: &[Entry<'_>],
     numbers: &[u32],
-    files: Vec<FileEntry>,
+    files: Files,
 ) -> Result<Tree, NoMemory>
     requires long { 66912 ≤ size }
     requires reach { size ≤ 70368744177664 }
     requires first { is_first_superblock superblock.now ≡ true }
     requires has_root { is_first_inode size superblock.now 2 ≡ true }
     requires root { is_first_root size superblock.now root.now ≡ true }
-    requires named { list_all is_first_entry entries.now ≡ true }
-    requires numbers { numbers.now ≡ named_inodes entries.now }
     requires has_inodes { All (λ number. is_first_inode size superblock.now number ≡ true) numbers.now }
-    requires files { AreFilesOf size superblock.now entries.now numbers.now files.items }
+    requires within { AreFilesWithin size files }
+    requires in_volume { AreInVolumes (whole_volume size ∷ []) files }
+    requires few_names { has_few_names files ≡ true }
     ensures { IfOk result (λ tree. tree ≡ tree_of size
-        (longest_ranges (covers (first_ranges superblock.now root.now numbers.now)) 0 size)
-        (root_file superblock.now root.now ∷ files.items)) }
+        (longest_ranges (covers (first_ranges superblock.now root.now numbers.now)) 0 size) files) }
 {
     Ok(Tree {
         image_len: size,
         volumes: volumes_of(alloc, size)?,
         unread: no_ranges(alloc)?,
-        files: files_from(alloc, size, superblock, root, entries, files)?,
+        files,
         guard: guard_from(alloc, size, superblock, root, numbers)?,
     })
 }
