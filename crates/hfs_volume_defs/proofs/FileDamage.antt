@@ -5,7 +5,8 @@ use Rattle.std.proofs.lemmas.Bool.{true≢false, leb-true, leb-false, ltb-true, 
 use Rattle.bytes_defs.specs.Bytes.{part}
 use Rattle.image_defs.specs.Ask.{result_of, given, ◌>>=◌}
 use Rattle.image_defs.proofs.Looks.{bind_gives, check_gives, bind_refuses, check_refuses}
-use Rattle.image_defs.specs.Runs.{result_given, each_result, result_check_false, result_check_true}
+use Rattle.image_defs.specs.Runs.{each_result}
+use Rattle.image_defs.proofs.Runs.{result_given, result_check_false, result_check_true}
 use Rattle.piece_defs.specs.Places.{bytes_through}
 use Rattle.hfs_defs.specs.Header.{header_of, is_magic, is_block_size, wrong_field, checked, volume_header}
 use Rattle.hfs_defs.specs.Forks.{fork_fault, FoundFork, found_or, found_fork}

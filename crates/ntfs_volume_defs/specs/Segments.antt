@@ -3,8 +3,8 @@ use Rattle.std.specs.Prelude.{ℕ, ◌+◌, ◌%◌, ◌^◌, Bool, not, ◌&&�
 use Rattle.std.specs.List.{filter}
 use Rattle.std.specs.Str.{bytes_eq}
 use Rattle.ntfs_defs.specs.declared.runs.Run.{Run}
-use Rattle.ntfs_defs.specs.declared.runs.RunDamage.{RunDamage}
-use Rattle.ntfs_defs.specs.declared.runs.RunDamage.TheVariants.{TooLong, Short, ZeroRun, Negative, Outside}
+use Rattle.ntfs_defs.specs.declared.fault.RunFault.{RunFault}
+use Rattle.ntfs_defs.specs.declared.fault.RunFault.TheVariants.{TooLong, Short, ZeroRun, Negative, Outside, NoMemory}
 use Rattle.ntfs_defs.specs.DecodedRuns.{decoded_runs}
 use Rattle.ntfs_record_defs.specs.Attributes.{Stream as StreamHeader, Form, Resident, NonResident, Opened, is_resident_form}
 use Rattle.fault_defs.specs.declared.Sort.TheVariants.{RunList, RunCount, SegmentGap, Sizes}
@@ -41,18 +41,20 @@ is_unreadable held = not (bit_and held.opened.attribute.flags 0x40FF == 0)
 
 -- ---- one segment
 
-abbrev pub damaged_at : RunDamage → ℕ
+-- the byte of a run list at which it is wrong; want of memory, which no run list gives, has none
+abbrev pub damaged_at : RunFault → ℕ
 damaged_at (TooLong at) = at
 damaged_at (Short at) = at
 damaged_at (ZeroRun at) = at
 damaged_at (Negative at) = at
 damaged_at (Outside at cluster) = at
+damaged_at NoMemory = 0
 
 abbrev pub clusters_in : List Run → ℕ
 clusters_in runs = sum_by (λ run. run.len) runs
 
 -- the runs of a list, which have as many clusters as the header counts, modulo 2^64
-abbrev pub counted_runs : Mft → Held → StreamHeader → Result (List Run) RunDamage → Result (List Run) Refusal
+abbrev pub counted_runs : Mft → Held → StreamHeader → Result (List Run) RunFault → Result (List Run) Refusal
 counted_runs mft held header (Err damage) = Err (Damaged RunList (place_in mft held (header.runs.at + damaged_at damage)))
 counted_runs mft held header (Ok runs) =
     if (header.first + clusters_in runs) % 2 ^ 64 == (header.last + 1) % 2 ^ 64 then Ok runs else Err (Damaged RunCount (attribute_place mft held))

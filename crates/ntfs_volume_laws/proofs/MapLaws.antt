@@ -9,7 +9,7 @@ use Rattle.image_defs.specs.Ask.{result_of}
 use Rattle.image_defs.specs.Runs.{with_value}
 use Rattle.image_defs.proofs.Looks.{bind_gives, given_gives}
 use Rattle.ntfs_defs.specs.declared.runs.Run.{Run}
-use Rattle.ntfs_defs.specs.declared.runs.RunDamage.{RunDamage}
+use Rattle.ntfs_defs.specs.declared.fault.RunFault.{RunFault}
 use Rattle.ntfs_defs.specs.DecodedRuns.{decoded_runs}
 use Rattle.ntfs_defs.specs.Clusters.{cluster_in_run, cluster_in}
 use Rattle.ntfs_record_defs.specs.Attributes.{Stream as StreamHeader, Form, Resident, NonResident}
@@ -182,7 +182,7 @@ then_gives : {X : Type 0} (test : Bool) (refusal : Refusal) (result : Result X R
 then_gives true refusal result x gives = (refl, gives)
 then_gives false refusal result x gives = absurd cc
 
-counted_same : (a b : Mft) (held : Held) (header : StreamHeader) (decoded : Result (List Run) RunDamage) (runs : List Run) → counted_runs a held header decoded ≡ Ok runs → counted_runs b held header decoded ≡ Ok runs
+counted_same : (a b : Mft) (held : Held) (header : StreamHeader) (decoded : Result (List Run) RunFault) (runs : List Run) → counted_runs a held header decoded ≡ Ok runs → counted_runs b held header decoded ≡ Ok runs
 counted_same a b held header (Err damage) runs gives = absurd cc
 counted_same a b held header (Ok found) runs gives =
     let counted = then_gives ((header.first + clusters_in found) % 2 ^ 64 == (header.last + 1) % 2 ^ 64) (Damaged RunCount (attribute_place a held)) (Ok found) runs gives in
