@@ -1,9 +1,8 @@
 -- What a tree file gives: the bytes that its pieces cover, and their leaf records.
-use Rattle.std.specs.Prelude.{◌≡◌, Ok, Err, ℕ, List, [], ◌∷◌, ◌++◌, refl}
+use Rattle.std.specs.Prelude.{◌≡◌, Result, Ok, Err, ℕ, List, [], ◌∷◌, ◌++◌, refl}
 use Rattle.std.specs.List.{flat_map}
 use Rattle.std.proofs.Common.{ap, ◌∙◌}
-use Rattle.image_defs.specs.Ask.{Ask, Done, result_of, each, ◌>>=◌}
-use Rattle.image_defs.specs.Runs.{result_given_ok, result_given_err}
+use Rattle.image_defs.specs.Ask.{Ask, Done, result_of, given, each, ◌>>=◌}
 use Rattle.image_defs.proofs.Runs.{result_bind_ok}
 use Rattle.rx_ranges.specs.declared.pieces.Piece.{Piece}
 use Rattle.rx_ranges.specs.declared.pieces.PieceKind.{PieceKind}
@@ -16,6 +15,13 @@ use Rattle.fault_defs.specs.declared.Refusal.{Refusal}
 use Rattle.hfs_defs.specs.declared.forks.Fork.{Fork}
 use Rattle.hfs_defs.specs.declared.forks.OverflowRecord.{OverflowRecord}
 use Rattle.hfs_defs.specs.declared.header.Header.{Header}
+
+-- a given value in front of a program, and a given fault
+result_given_ok : {E X Y : Type 0} (image : List ℕ) (result : Result X E) (next : X → Ask E Y) (x : X) → result ≡ Ok x → result_of image (given result >>= next) ≡ result_of image (next x)
+result_given_ok image result next x is = ap (λ r. result_of image (given r >>= next)) is
+
+result_given_err : {E X Y : Type 0} (image : List ℕ) (result : Result X E) (next : X → Ask E Y) (e : E) → result ≡ Err e → result_of image (given result >>= next) ≡ Err e
+result_given_err image result next e is = ap (λ r. result_of image (given r >>= next)) is
 
 run_kind : (image : List ℕ) (kind : PieceKind) (at len : ℕ) → result_of image (look_of_kind kind at len) ≡ Ok (bytes_of_kind image kind at len)
 run_kind image Disk at len = refl

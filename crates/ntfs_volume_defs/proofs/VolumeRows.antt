@@ -9,7 +9,7 @@ use Rattle.image_defs.specs.Via.{via, look_bytes}
 use Rattle.bytes_defs.specs.Numbers.{number_at, signed_at}
 use Rattle.rx_ranges.specs.declared.pieces.Piece.{Piece}
 use Rattle.rx_ranges.specs.declared.pieces.PieceKind.TheVariants.{Disk, Zero}
-use Rattle.ntfs_defs.specs.WrittenRuns.{list_from, list_within, run_at, result_behind, run_with, length_at, offset_at}
+use Rattle.ntfs_defs.specs.WrittenRuns.{list_from, list_within, run_at, run_behind, run_with, offset_at}
 use Rattle.ntfs_defs.specs.DecodedRuns.{checked_run, begin_of}
 use Rattle.ntfs_record_defs.specs.Stored.{stored_place}
 use Rattle.ntfs_record_defs.specs.Attributes.{attributes_within, is_length, is_layout}
@@ -42,7 +42,7 @@ abbrev mft : Mft
 mft = record { boot = boot; content = record { runs = record { len = 12; cluster = Some 1 } ∷ []; real = 6144; initialised = 6144 } }
 
 mft_is : result_of image (mft_of boot) ≡ Ok mft
-unfolding image part number_at ones mft_of slot_of stored_slot is_whole slot_place stream_place run_place via look_bytes header_of record_behind stored_place attributes_within is_length is_layout list_from list_within run_at result_behind run_with length_at offset_at checked_run begin_of
+unfolding image part number_at ones mft_of slot_of stored_slot is_whole slot_place stream_place run_place via look_bytes header_of record_behind stored_place attributes_within is_length is_layout list_from list_within run_at run_behind run_with offset_at checked_run begin_of
 mft_is = refl
 
 abbrev disk : ℕ → ℕ → ℕ → Piece
@@ -56,7 +56,7 @@ told (Some file) = (file.number, map (λ name. name.parent) file.names, map (λ 
 -- the content of file 1 goes over the end of a stride, whose two bytes stand in the array
 file_is : with_value told (result_of image (file_of mft 1)) ≡ Ok (
     (1, 1407374883553285 ∷ [], (400, disk 0 334 1712 ∷ disk 334 2 1586 ∷ disk 336 64 2048 ∷ []) ∷ (3, disk 0 3 2144 ∷ []) ∷ []) ∷ [])
-unfolding image part number_at signed_at ones slot_of stored_slot is_whole slot_place stream_place run_place via look_bytes header_of record_behind stored_place attributes_within is_length is_layout list_from list_within run_at result_behind run_with length_at offset_at checked_run begin_of entries_within is_entry named_attribute is_file_name longest_pieces slack_ranges stream_slack longest_ranges parts_of file_of
+unfolding image part number_at signed_at ones slot_of stored_slot is_whole slot_place stream_place run_place via look_bytes header_of record_behind stored_place attributes_within is_length is_layout list_from list_within run_at run_behind run_with offset_at checked_run begin_of entries_within is_entry named_attribute is_file_name longest_pieces slack_ranges stream_slack longest_ranges parts_of file_of
 file_is = refl
 
 -- $MFT has a list of its own: slot 1 holds the second segment of its $DATA. File 6 has a list: slot 7 holds its streams, and
@@ -71,10 +71,10 @@ abbrev listed_mft : Mft
 listed_mft = record { boot = listed_boot; content = record { runs = record { len = 4; cluster = Some 1 } ∷ record { len = 12; cluster = Some 5 } ∷ []; real = 8192; initialised = 8192 } }
 
 listed_mft_is : result_of image_with_lists (mft_of listed_boot) ≡ Ok listed_mft
-unfolding image_with_lists part number_at ones mft_of slot_of stored_slot is_whole slot_place stream_place run_place via look_bytes header_of record_behind stored_place attributes_within is_length is_layout list_from list_within run_at result_behind run_with length_at offset_at checked_run begin_of entries_within is_entry named_attribute segments_behind
+unfolding image_with_lists part number_at ones mft_of slot_of stored_slot is_whole slot_place stream_place run_place via look_bytes header_of record_behind stored_place attributes_within is_length is_layout list_from list_within run_at run_behind run_with offset_at checked_run begin_of entries_within is_entry named_attribute segments_behind
 listed_mft_is = refl
 
 listed_file_is : with_value told (result_of image_with_lists (file_of listed_mft 6)) ≡ Ok (
     (6, 1407374883553285 ∷ [], (5, disk 0 5 7760 ∷ []) ∷ (700, disk 0 600 9216 ∷ record { from = 600; len = 100; kind = Zero; at = 0 } ∷ []) ∷ []) ∷ [])
-unfolding image_with_lists part number_at signed_at ones slot_of stored_slot is_whole slot_place stream_place run_place via look_bytes header_of record_behind stored_place attributes_within is_length is_layout list_from list_within run_at result_behind run_with length_at offset_at checked_run begin_of entries_within is_entry named_attribute is_file_name longest_pieces slack_ranges stream_slack longest_ranges parts_of file_of
+unfolding image_with_lists part number_at signed_at ones slot_of stored_slot is_whole slot_place stream_place run_place via look_bytes header_of record_behind stored_place attributes_within is_length is_layout list_from list_within run_at run_behind run_with offset_at checked_run begin_of entries_within is_entry named_attribute is_file_name longest_pieces slack_ranges stream_slack longest_ranges parts_of file_of
 listed_file_is = refl
