@@ -15,7 +15,7 @@ moved due count = cond (due && nat_eq count 0) Failed (Bytes count)
 -- a call that a signal interrupted is made again, and any other error is a fault
 abbrev pub refused : ErrorKind → Outcome
 refused Interrupted = Again
-refused other = Failed
+refused kind = Failed
 
 -- what std's answer to one call comes to
 abbrev pub judged : Bool → Result ℕ Error → Outcome
