@@ -1,3 +1,4 @@
+pub mod HeaderDamage
 pub mod ForkLaws
 pub mod ForkDamage
 pub mod LeafLaws

@@ -1,6 +1,7 @@
 pub mod Header
 pub mod Forks
 pub mod Damage
+pub mod HeaderDamage
 pub mod ForkDamage
 pub mod Nodes
 pub mod Leaves

@@ -1,7 +1,14 @@
-//! Laws of forks and of tree files: the contract of each of these functions is a law, and its body is empty.
+//! Laws of headers, of forks and of tree files: the contract of each of these functions is a law, and its body is empty.
 ghost use Rattle.hfs_defs.specs.Chain.{LeavesLaw};
 ghost use Rattle.hfs_defs.specs.ForkDamage.{ForkDamageLaw};
 ghost use Rattle.hfs_defs.specs.Forks.{ForkLaw};
+ghost use Rattle.hfs_defs.specs.HeaderDamage.{HeaderLaw};
+
+/// A header is that of its volume, and no clause of it is false. What is refused hasn't the magic, or has a clause that is
+/// false.
+pub fn headers_are_true()
+    ensures { HeaderLaw }
+{}
 
 /// The pieces of a fork without a fault cover it in order, are as long as possible, and put each byte where it stands.
 pub fn pieces_are_the_fork()

@@ -1,6 +1,6 @@
 -- What a header gives, test by test.
-use Rattle.std.specs.Prelude.{◌≡◌, ℕ, ◌+◌, ◌^◌, ◌<◌, ◌≤◌, true, false, nat_le, Option, Some, None, IfSome, Result, Ok, Err, List}
-use Rattle.std.proofs.Common.{ap, sym, subst, ◌∙◌, arith}
+use Rattle.std.specs.Prelude.{◌≡◌, ℕ, ◌+◌, ◌^◌, ◌<◌, ◌≤◌, true, false, nat_le, Option, Some, None, IfSome, IfErr, Result, Ok, Err, List}
+use Rattle.std.proofs.Common.{ap, sym, subst, ◌∙◌, arith, ⊎_elim}
 use Rattle.std.proofs.lemmas.Bool.{le-leb, lt-leb}
 use Rattle.disk_defs.specs.Count.{Faults}
 use Rattle.disk_defs.specs.declared.Area.TheVariants.{Image}
@@ -9,12 +9,14 @@ use Rattle.image_defs.specs.Ask.{result_of}
 use Rattle.image_defs.proofs.Runs.{result_given, result_check_true, result_check_false}
 use Rattle.hfs_defs.specs.Header.{is_magic, header_of, wrong_field, checked, volume_header}
 use Rattle.hfs_defs.specs.declared.header.Header.{Header}
+use Rattle.hfs_defs.proofs.HeaderDamage.{header_law}
+use Rattle.hfs_header.specs.Refusals.{IsHeaderRefusal, TellsHeader}
 use Rattle.rx_store.specs.Answers.{Answers}
 use Rattle.rx_store.specs.ReadFaults.{IsReadCounted}
 use Rattle.rx_store.specs.declared.read_fault.ReadFault.{ReadFault}
 use Rattle.rx_store.specs.declared.read_fault.ReadFault.TheVariants as read
 use Rattle.fault_defs.specs.declared.Refusal.{Refusal}
-use Rattle.fault_defs.specs.declared.Refusal.TheVariants.{NotThis, Damaged}
+use Rattle.fault_defs.specs.declared.Refusal.TheVariants.{NotThis, Damaged, Unsupported, Limit}
 use Rattle.fault_defs.specs.declared.Sort.TheVariants.{HeaderField}
 
 pub too_short : (image : List ℕ) (at len : ℕ) → len < 1028 → result_of image (volume_header at len) ≡ Err NotThis
@@ -88,3 +90,31 @@ counts_nothing (Err read.NotThis) before now calm same = same
 counts_nothing (Err (read.Damaged sort place)) before now calm same = same
 counts_nothing (Err (read.Unsupported what place)) before now calm same = same
 counts_nothing (Err (read.Limit bound number)) before now calm same = same
+
+-- ---- what an answer says of the volume
+
+tells : (image : List ℕ) (at len : ℕ) (result : Result Header ReadFault) → (result ≡ Err read.NoMemory → ⊥) → Answers result (run image (volume_header at len)) → TellsHeader image at len result
+tells image at len (Ok header) lean answer = (header_law image at len).accepts header answer
+tells image at len (Err read.Device) lean answer = tt
+tells image at len (Err read.NoMemory) lean answer = absurd (lean cc)
+tells image at len (Err read.NotThis) lean answer = ⊎_elim (λ other. other.1) (λ damage. absurd damage.1) ((header_law image at len).refuses NotThis answer)
+tells image at len (Err (read.Damaged sort place)) lean answer = ⊎_elim (λ other. absurd cc) (λ damage. damage) ((header_law image at len).refuses (Damaged sort place) answer)
+tells image at len (Err (read.Unsupported what place)) lean answer = ⊎_elim (λ other. absurd cc) (λ damage. damage.1) ((header_law image at len).refuses (Unsupported what place) answer)
+tells image at len (Err (read.Limit bound number)) lean answer = ⊎_elim (λ other. absurd cc) (λ damage. damage.1) ((header_law image at len).refuses (Limit bound number) answer)
+
+no_memory : (at : ℕ) → IsHeaderRefusal at read.NoMemory → ⊥
+no_memory at refusal = ⊎_elim (λ is. absurd cc) (λ more. ⊎_elim (λ is. absurd cc) (λ more. ⊎_elim (λ is. absurd cc) (λ more. ⊎_elim (λ is. absurd cc) (λ is. absurd cc) more) more) more) refusal
+
+lean : (at : ℕ) (result : Result Header ReadFault) → IfErr result (IsHeaderRefusal at) → result ≡ Err read.NoMemory → ⊥
+lean at (Ok header) refusals is = absurd cc
+lean at (Err fault) refusals is =
+    let P : ReadFault → Type 0 = IsHeaderRefusal at in
+    no_memory at (subst P (same_fault fault read.NoMemory is) refusals)
+  where
+    same_fault : (one other : ReadFault) → (let a : Result Header ReadFault = Err one in let b : Result Header ReadFault = Err other in a ≡ b) → one ≡ other
+    same_fault one other same = cc
+
+pub tells_told : (told : Option (List ℕ)) (at len : ℕ) (result : Result Header ReadFault) → IfErr result (IsHeaderRefusal at) → IfSome told (λ image. Answers result (run image (volume_header at len)))
+    → IfSome told (λ image. TellsHeader image at len result)
+tells_told None at len result refusals answer = tt
+tells_told (Some image) at len result refusals answer = tells image at len result (lean at result refusals) answer

@@ -30,7 +30,7 @@ use Rattle.hfs_volume_defs.specs.Folders.{path_within, folder_path, named_file}
 use Rattle.hfs_volume_defs.specs.Files.{fork_part, entry_file, special_file}
 use Rattle.hfs_volume_defs.specs.Volume.{volume_entries, sound_entries, names_within, guard_of, files_within, volume_files, tree_below, volume_tree}
 use Rattle.fault_defs.specs.declared.Refusal.TheVariants.{NotThis, Damaged, Unsupported}
-use Rattle.fault_defs.specs.declared.Sort.TheVariants.{HeaderField, ForkSum, NodeLink, CatalogTwice, FolderMissing}
+use Rattle.fault_defs.specs.declared.Sort.TheVariants.{HeaderField, ForkExtent, ForkSum, TreeHeader, NodeLink, NodeRecord, CatalogRecord, CatalogTwice, FolderMissing}
 use Rattle.fault_defs.specs.declared.What.TheVariants.{ExtentsFork}
 
 -- the bytes from a place on to a size: zeros, but for the bytes that are written at some places
@@ -172,3 +172,18 @@ catalog_refused = (refl, refl)
 folder_missing : (with_byte 6179 99 ≡ Err (Damaged FolderMissing 1296)) × (with_byte 6261 9 ≡ Err (Damaged FolderMissing 6256))
 unfolding plain_image encode_utf8 digits hex_digit byte_escape unit_escape word_spelling name_spelling item_of_units part number_at ones items_text unit_items sorted_by_order longest_ranges header_of fork_of wrong_field is_block_size volume_header records_of fork_fault pieces_of slack_of found_fork is_tree is_node_size is_sound_node is_record leaves_of chain_within leaves_of_node is_leaf_in is_overflow_record checked_overflow has_name record_kind checked_entry path_within folder_path named_file fork_part entry_file special_file look_through tree_leaves fork_leaves volume_overflow volume_entries sound_entries names_within guard_of files_within volume_files tree_below volume_tree
 folder_missing = (refl, refl)
+
+-- the volume has a block more than bytes for it; node 0 of the extents file, and that of the catalog, isn't of kind 1
+tree_refused : (with_byte 1071 41 ≡ Err (Damaged HeaderField 1068)) × (with_byte 4104 0 ≡ Err (Damaged TreeHeader 1216)) × (with_byte 5128 0 ≡ Err (Damaged TreeHeader 1296))
+unfolding plain_image encode_utf8 digits hex_digit byte_escape unit_escape word_spelling name_spelling item_of_units part number_at ones items_text unit_items sorted_by_order longest_ranges header_of fork_of wrong_field is_block_size volume_header records_of fork_fault pieces_of slack_of found_fork is_tree is_node_size is_sound_node is_record leaves_of chain_within leaves_of_node is_leaf_in is_overflow_record checked_overflow has_name record_kind checked_entry path_within folder_path named_file fork_part entry_file special_file look_through tree_leaves fork_leaves volume_overflow volume_entries sound_entries names_within guard_of files_within volume_files tree_below volume_tree
+tree_refused = (refl, refl, refl)
+
+-- a record begins in the descriptor of its node; a record has an unknown type
+record_refused : (with_byte 7167 13 ≡ Err (Damaged NodeRecord 6144)) × (with_byte 6169 5 ≡ Err (Damaged CatalogRecord 6158))
+unfolding plain_image encode_utf8 digits hex_digit byte_escape unit_escape word_spelling name_spelling item_of_units part number_at ones items_text unit_items sorted_by_order longest_ranges header_of fork_of wrong_field is_block_size volume_header records_of fork_fault pieces_of slack_of found_fork is_tree is_node_size is_sound_node is_record leaves_of chain_within leaves_of_node is_leaf_in is_overflow_record checked_overflow has_name record_kind checked_entry path_within folder_path named_file fork_part entry_file special_file look_through tree_leaves fork_leaves volume_overflow volume_entries sound_entries names_within guard_of files_within volume_files tree_below volume_tree
+record_refused = (refl, refl)
+
+-- an extent of a file passes the volume; a file has the number of the attributes file
+file_refused : (with_byte 6373 40 ≡ Err (Damaged ForkExtent 6370)) × (with_byte 6535 8 ≡ Err (Damaged CatalogTwice 6514))
+unfolding plain_image encode_utf8 digits hex_digit byte_escape unit_escape word_spelling name_spelling item_of_units part number_at ones items_text unit_items sorted_by_order longest_ranges header_of fork_of wrong_field is_block_size volume_header records_of fork_fault pieces_of slack_of found_fork is_tree is_node_size is_sound_node is_record leaves_of chain_within leaves_of_node is_leaf_in is_overflow_record checked_overflow has_name record_kind checked_entry path_within folder_path named_file fork_part entry_file special_file look_through tree_leaves fork_leaves volume_overflow volume_entries sound_entries names_within guard_of files_within volume_files tree_below volume_tree
+file_refused = (refl, refl)

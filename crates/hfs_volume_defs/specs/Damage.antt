@@ -1,14 +1,14 @@
 -- What is wrong with a volume, in the words of the tables: what is damaged and where, what isn't supported, and of what
 -- there is too much. Of several that hold none comes first.
-use Rattle.std.specs.Prelude.{◌≡◌, ℕ, ◌+◌, ◌*◌, ◌<◌, ◌≤◌, Bool, true, false, Some, Ok, Err, List, [], ◌∷◌, ◌++◌, length}
+use Rattle.std.specs.Prelude.{◌≡◌, ℕ, ◌+◌, ◌<◌, Bool, true, false, Some, Ok, Err, List, [], ◌∷◌, ◌++◌, length}
 use Rattle.std.specs.List.{sum_by}
-use Rattle.bytes_defs.specs.Bytes.{part}
-use Rattle.image_defs.specs.Ask.{result_of}
+use Rattle.image_defs.specs.Ask.{run}
 use Rattle.image_defs.specs.Runs.{each_result}
 use Rattle.piece_defs.specs.Places.{bytes_through}
-use Rattle.rx_tree.specs.TreeValue.{TreeValue}
+use Rattle.rx_tree.specs.FoundTree.{FoundTree}
 use Rattle.rx_tree.specs.declared.file.FileEntry.{FileEntry}
-use Rattle.hfs_defs.specs.Header.{is_magic, header_of, is_block_size, volume_header}
+use Rattle.hfs_defs.specs.Header.{volume_header}
+use Rattle.hfs_defs.specs.HeaderDamage.{HasMagic, IsFalseInHeader}
 use Rattle.hfs_defs.specs.Forks.{blocks_in, records_of, FoundFork, found_fork}
 use Rattle.hfs_defs.specs.ForkDamage.{IsFalseInFork}
 use Rattle.hfs_defs.specs.Leaves.{Leaf, LeafList, tree_file}
@@ -24,27 +24,12 @@ use Rattle.fault_defs.specs.declared.Bound.TheVariants.{Image, Names, PathBytes,
 use Rattle.fault_defs.specs.declared.Refusal.{Refusal}
 use Rattle.fault_defs.specs.declared.Refusal.TheVariants.{NotThis, Damaged, Unsupported, Limit}
 use Rattle.fault_defs.specs.declared.Sort.{Sort}
-use Rattle.fault_defs.specs.declared.Sort.TheVariants.{HeaderField, ExtentsRecord, CatalogRecord, CatalogTwice, FolderMissing}
+use Rattle.fault_defs.specs.declared.Sort.TheVariants.{ExtentsRecord, CatalogRecord, CatalogTwice, FolderMissing}
 use Rattle.fault_defs.specs.declared.What.{What}
 use Rattle.fault_defs.specs.declared.What.TheVariants.{ExtentsFork}
 use Rattle.hfs_defs.specs.declared.forks.Fork.{Fork}
 use Rattle.hfs_defs.specs.declared.forks.OverflowRecord.{OverflowRecord}
 use Rattle.hfs_defs.specs.declared.header.Header.{Header}
-
--- a volume of `len` bytes at a place has the magic of HFS+
-pub record HasMagic (image : List ℕ) (at len : ℕ) : Type 0 where
-  pub enough : 1028 ≤ len
-  pub fits : is_magic (part image (at + 1024) 4) ≡ true
-
--- the fields of its header, right or wrong
-abbrev pub header_in : List ℕ → ℕ → ℕ → Header
-header_in image at len = header_of at len (part image (at + 1024) 512)
-
--- the clauses of the header that are false, and where
-pub data IsFalseInHeader (image : List ℕ) (at len : ℕ) : Sort → ℕ → Type 0 where
-  ShortVolume : len < 2560 → IsFalseInHeader image at len HeaderField (at + 1024)
-  OtherBlockSize : 2560 ≤ len → is_block_size (header_in image at len).block_size ≡ false → IsFalseInHeader image at len HeaderField (at + 1064)
-  BlocksPassVolume : 2560 ≤ len → len < (header_in image at len).total_blocks * (header_in image at len).block_size → IsFalseInHeader image at len HeaderField (at + 1068)
 
 -- the clauses of a tree file that are false, and where: those of its fork, of its tree, and of its leaf records, of which
 -- each has to pass a test
@@ -52,7 +37,7 @@ pub data IsFalseInFile (image : List ℕ) (header : Header) (records : List Over
   OfFork : (sort : Sort) (at : ℕ) → IsFalseInFork header records fork place sort at → IsFalseInFile image header records fork place is_record bad sort at
   OfTree : (found : FoundFork) (sort : Sort) (at : ℕ) → found_fork header records fork place ≡ Ok found
       → IsFalseInTree (tree_file (bytes_through image found.pieces) found.pieces place) sort at → IsFalseInFile image header records fork place is_record bad sort at
-  OfRecord : (sort : Sort) (leaves : LeafList) (front : List Leaf) (leaf : Leaf) (behind : List Leaf) → sort ≡ bad → result_of image (fork_leaves header records fork place) ≡ Ok leaves
+  OfRecord : (sort : Sort) (leaves : LeafList) (front : List Leaf) (leaf : Leaf) (behind : List Leaf) → sort ≡ bad → run image (fork_leaves header records fork place) ≡ Ok leaves
       → leaves.records ≡ front ++ leaf ∷ behind → is_record leaf.bytes ≡ false → IsFalseInFile image header records fork place is_record bad sort leaf.at
 
 -- the clauses of the entries of a catalog that are false, and where
@@ -74,15 +59,15 @@ pub data IsFalseInFiles (header : Header) (overflow : List OverflowRecord) (entr
 
 -- a volume up to its header, its overflow records, and its entries
 abbrev pub HasHeader : List ℕ → ℕ → ℕ → Header → Type 0
-HasHeader image at len header = result_of image (volume_header at len) ≡ Ok header
+HasHeader image at len header = run image (volume_header at len) ≡ Ok header
 
 pub record HasOverflow (image : List ℕ) (at len : ℕ) (header : Header) (overflow : List OverflowRecord) : Type 0 where
   pub header_is : HasHeader image at len header
-  pub overflow_is : result_of image (volume_overflow header) ≡ Ok overflow
+  pub overflow_is : run image (volume_overflow header) ≡ Ok overflow
 
 pub record HasEntries (image : List ℕ) (at len : ℕ) (header : Header) (overflow : List OverflowRecord) (entries : List Entry) : Type 0 where
   pub below : HasOverflow image at len header overflow
-  pub entries_are : result_of image (volume_entries header overflow) ≡ Ok entries
+  pub entries_are : run image (volume_entries header overflow) ≡ Ok entries
 
 -- the clauses that are false of a volume, and where
 pub data IsFalseAt (image : List ℕ) (at len : ℕ) : Sort → ℕ → Type 0 where
@@ -125,10 +110,10 @@ IsWrong image at len volume (Limit bound number) = IsOver image at len volume bo
 -- A volume without the magic is something else, and one with it isn't. What refuses a volume with the magic is wrong with
 -- it, nothing is wrong with one that has a tree, and one with which nothing is wrong has a tree.
 pub record RefusalsAreTrue (image : List ℕ) (at len volume : ℕ) : Type 0 where
-  pub other : (HasMagic image at len → ⊥) → result_of image (volume_tree (length image) at len volume) ≡ Err NotThis
-  pub refuses : (fault : Refusal) → HasMagic image at len → result_of image (volume_tree (length image) at len volume) ≡ Err fault → IsWrong image at len volume fault
-  pub accepts : (tree : TreeValue) (fault : Refusal) → result_of image (volume_tree (length image) at len volume) ≡ Ok tree → IsWrong image at len volume fault → ⊥
-  pub complete : HasMagic image at len → ((fault : Refusal) → IsWrong image at len volume fault → ⊥) → (tree : TreeValue) × (result_of image (volume_tree (length image) at len volume) ≡ Ok tree)
+  pub other : (HasMagic image at len → ⊥) → run image (volume_tree (length image) at len volume) ≡ Err NotThis
+  pub refuses : (fault : Refusal) → HasMagic image at len → run image (volume_tree (length image) at len volume) ≡ Err fault → IsWrong image at len volume fault
+  pub accepts : (tree : FoundTree) (fault : Refusal) → run image (volume_tree (length image) at len volume) ≡ Ok tree → IsWrong image at len volume fault → ⊥
+  pub complete : HasMagic image at len → ((fault : Refusal) → IsWrong image at len volume fault → ⊥) → (tree : FoundTree) × (run image (volume_tree (length image) at len volume) ≡ Ok tree)
 
 abbrev pub HfsDamageLaw : Type 0
 HfsDamageLaw = (image : List ℕ) (at len volume : ℕ) → RefusalsAreTrue image at len volume
