@@ -3,9 +3,9 @@ use Rattle.std.specs.Prelude.{◌≡◌, ◌⊎◌, ℕ, ◌+◌, ◌*◌, ◌<�
 use Rattle.std.proofs.Common.{ap, sym, ◌∙◌, subst, arith, inl, inr, ⊎_elim}
 use Rattle.std.proofs.lemmas.Bool.{true≢false, leb-true, leb-false, ltb-true, ltb-false, le-leb}
 use Rattle.bytes_defs.specs.Bytes.{part}
-use Rattle.image_defs.specs.Ask.{run}
-use Rattle.image_defs.specs.Looks.{check_gives, check_refuses}
-use Rattle.image_defs.specs.Runs.{run_given, run_check_false, run_check_true}
+use Rattle.image_defs.specs.Ask.{result_of}
+use Rattle.image_defs.proofs.Looks.{check_gives, check_refuses}
+use Rattle.image_defs.specs.Runs.{result_given, result_check_false, result_check_true}
 use Rattle.hfs_defs.specs.Damage.{IsDamage}
 use Rattle.hfs_defs.specs.Header.{header_of, is_magic, is_block_size, wrong_field, checked, volume_header}
 use Rattle.hfs_defs.specs.HeaderDamage.{HasMagic, header_in, IsFalseInHeader, ShortVolume, OtherBlockSize, BlocksPassVolume, HeaderLaw}
@@ -29,7 +29,7 @@ same_error one other same = cc
 same_value : (one other : Header) → (let a : Result Header Refusal = Ok one in let b : Result Header Refusal = Ok other in a ≡ b) → one ≡ other
 same_value one other same = cc
 
-header_refused : (image : List ℕ) (at len : ℕ) (fault : Refusal) → run image (volume_header at len) ≡ Err fault
+header_refused : (image : List ℕ) (at len : ℕ) (fault : Refusal) → result_of image (volume_header at len) ≡ Err fault
     → ((NotThis ≡ fault) × (HasMagic image at len → ⊥)) ⊎ (HasMagic image at len × IsDamage (IsFalseInHeader image at len) fault)
 unfolding volume_header wrong_field
 header_refused image at len fault is =
@@ -40,7 +40,7 @@ header_refused image at len fault is =
     (λ fits. inr (
       record { enough = leb-true 1028 len enough.0; fits = fits.0 },
       ⊎_elim (λ short. subst P short.1 (ShortVolume (leb-false 2560 len short.0)))
-          (λ long. field (leb-true 2560 len long.0) (is_block_size header.block_size) (nat_lt header.len (header.total_blocks * header.block_size)) refl refl (sym (run_given image (checked header (wrong_field header))) ∙ long.1))
+          (λ long. field (leb-true 2560 len long.0) (is_block_size header.block_size) (nat_lt header.len (header.total_blocks * header.block_size)) refl refl (sym (result_given image (checked header (wrong_field header))) ∙ long.1))
           (check_refuses image (nat_le 2560 len) (Damaged HeaderField (at + 1024)) _ fault fits.1),
     ))
     (check_refuses image (is_magic (part image (at + 1024) 4)) NotThis _ fault enough.1))
@@ -59,14 +59,14 @@ header_refused image at len fault is =
         (BlocksPassVolume long (subst Q (same_len image at len) (ltb-true (header_in image at len).len ((header_in image at len).total_blocks * (header_in image at len).block_size) its)))
     field long true false good its same = absurd cc
 
-header_passes : (image : List ℕ) (at len : ℕ) (header : Header) → run image (volume_header at len) ≡ Ok header → HasMagic image at len × (header ≡ header_in image at len) × ((sort : Sort) (place : ℕ) → IsFalseInHeader image at len sort place → ⊥)
+header_passes : (image : List ℕ) (at len : ℕ) (header : Header) → result_of image (volume_header at len) ≡ Ok header → HasMagic image at len × (header ≡ header_in image at len) × ((sort : Sort) (place : ℕ) → IsFalseInHeader image at len sort place → ⊥)
 unfolding volume_header wrong_field
 header_passes image at len header is =
     let enough = check_gives image (nat_le 1028 len) NotThis _ header is in
     let fits = check_gives image (is_magic (part image (at + 1024) 4)) NotThis _ header enough.1 in
     let long = check_gives image (nat_le 2560 len) (Damaged HeaderField (at + 1024)) _ header fits.1 in
     let found : Header = header_in image at len in
-    let right = fields (is_block_size found.block_size) (nat_lt found.len (found.total_blocks * found.block_size)) (sym (run_given image (checked found (wrong_field found))) ∙ long.1) in
+    let right = fields (is_block_size found.block_size) (nat_lt found.len (found.total_blocks * found.block_size)) (sym (result_given image (checked found (wrong_field found))) ∙ long.1) in
     (record { enough = leb-true 1028 len enough.0; fits = fits.0 }, right.2, none (leb-true 2560 len long.0) right.0 right.1)
   where
     fields : (good over : Bool) → checked (header_in image at len) (if not good then Some 40 else (if over then Some 44 else None)) ≡ Ok header → (good ≡ true) × (over ≡ false) × (header ≡ header_in image at len)
@@ -83,13 +83,13 @@ header_passes image at len header is =
         absurd (omega (arith, fits, over, same_len image at len))
 
 -- a volume without the magic is something else
-other_volume : (image : List ℕ) (at len : ℕ) → (HasMagic image at len → ⊥) → run image (volume_header at len) ≡ Err NotThis
+other_volume : (image : List ℕ) (at len : ℕ) → (HasMagic image at len → ⊥) → result_of image (volume_header at len) ≡ Err NotThis
 unfolding volume_header
 other_volume image at len none = either (nat_le 1028 len) (is_magic (part image (at + 1024) 4)) refl refl
   where
-    either : (enough fits : Bool) → nat_le 1028 len ≡ enough → is_magic (part image (at + 1024) 4) ≡ fits → run image (volume_header at len) ≡ Err NotThis
-    either false fits short its = run_check_false image (nat_le 1028 len) NotThis _ short
-    either true false enough other = run_check_true image (nat_le 1028 len) NotThis _ enough ∙ run_check_false image (is_magic (part image (at + 1024) 4)) NotThis _ other
+    either : (enough fits : Bool) → nat_le 1028 len ≡ enough → is_magic (part image (at + 1024) 4) ≡ fits → result_of image (volume_header at len) ≡ Err NotThis
+    either false fits short its = result_check_false image (nat_le 1028 len) NotThis _ short
+    either true false enough other = result_check_true image (nat_le 1028 len) NotThis _ enough ∙ result_check_false image (is_magic (part image (at + 1024) 4)) NotThis _ other
     either true true enough fits = absurd (none (record { enough = leb-true 1028 len enough; fits = fits }))
 
 pub header_law : HeaderLaw

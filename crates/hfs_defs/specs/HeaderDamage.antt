@@ -1,7 +1,7 @@
 -- What is wrong with a volume header, in the words of the table of damage.
 use Rattle.std.specs.Prelude.{◌≡◌, ◌⊎◌, ℕ, ◌+◌, ◌*◌, ◌<◌, ◌≤◌, true, false, Ok, Err, List}
 use Rattle.bytes_defs.specs.Bytes.{part}
-use Rattle.image_defs.specs.Ask.{run}
+use Rattle.image_defs.specs.Ask.{result_of}
 use Rattle.hfs_defs.specs.Damage.{IsDamage}
 use Rattle.hfs_defs.specs.Header.{is_magic, header_of, is_block_size, volume_header}
 use Rattle.fault_defs.specs.declared.Refusal.{Refusal}
@@ -28,9 +28,9 @@ pub data IsFalseInHeader (image : List ℕ) (at len : ℕ) : Sort → ℕ → Ty
 -- A header is that of the volume, which has the magic, and no clause of it is false. What is refused hasn't the magic, and is
 -- something else, or has a clause that is false at its place.
 pub record HeaderIsTrue (image : List ℕ) (at len : ℕ) : Type 0 where
-  pub other : (HasMagic image at len → ⊥) → run image (volume_header at len) ≡ Err NotThis
-  pub refuses : (fault : Refusal) → run image (volume_header at len) ≡ Err fault → ((NotThis ≡ fault) × (HasMagic image at len → ⊥)) ⊎ (HasMagic image at len × IsDamage (IsFalseInHeader image at len) fault)
-  pub accepts : (header : Header) → run image (volume_header at len) ≡ Ok header
+  pub other : (HasMagic image at len → ⊥) → result_of image (volume_header at len) ≡ Err NotThis
+  pub refuses : (fault : Refusal) → result_of image (volume_header at len) ≡ Err fault → ((NotThis ≡ fault) × (HasMagic image at len → ⊥)) ⊎ (HasMagic image at len × IsDamage (IsFalseInHeader image at len) fault)
+  pub accepts : (header : Header) → result_of image (volume_header at len) ≡ Ok header
       → HasMagic image at len × (header ≡ header_in image at len) × ((sort : Sort) (place : ℕ) → IsFalseInHeader image at len sort place → ⊥)
 
 abbrev pub HeaderLaw : Type 0

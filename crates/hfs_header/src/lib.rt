@@ -8,7 +8,7 @@ ghost use Rattle.disk_defs.specs.Disk.{size_of, told_image};
 ghost use Rattle.disk_defs.specs.declared.Area.TheVariants.{Image};
 ghost use Rattle.hfs_defs.specs.Header.{is_magic as is_magic_by, header_of, wrong_field, checked as checked_by, volume_header, IsSoundHeader};
 ghost use Rattle.hfs_header.specs.Refusals.{IsHeaderRefusal, TellsHeader};
-ghost use Rattle.image_defs.specs.Ask.{run};
+ghost use Rattle.image_defs.specs.Ask.{result_of};
 ghost use Rattle.rx_store.specs.Answers.{Answers};
 ghost use Rattle.rx_store.specs.ReadFaults.{IsReadCounted};
 
@@ -56,7 +56,7 @@ fn checked(header: Header) -> Result<Header, ReadFault>
 #[tactic(auto, unfolding(hfs_defs::specs::Header::header_of))]
 fn read_fields<S: Store>(store: &mut S, at: u64, len: u64) -> Result<Header, ReadFault>
     requires inside { at + len ≤ size_of Image (S.state store.old) }
-    ensures told { IfSome (told_image (S.state store.old)) (λ image. Answers result (run image (volume_header at len))) }
+    ensures told { IfSome (told_image (S.state store.old)) (λ image. Answers result (result_of image (volume_header at len))) }
     ensures sound { IfOk result IsSoundHeader }
     ensures begins { IfOk result (λ header. header.at ≡ at) }
     ensures long { IfOk result (λ header. header.len ≡ len) }
@@ -81,7 +81,7 @@ fn read_fields<S: Store>(store: &mut S, at: u64, len: u64) -> Result<Header, Rea
 /// The header of the volume of `len` bytes at `at`.
 pub fn read_header<S: Store>(store: &mut S, at: u64, len: u64) -> Result<Header, ReadFault>
     requires inside { at + len ≤ size_of Image (S.state store.old) }
-    ensures told { IfSome (told_image (S.state store.old)) (λ image. Answers result (run image (volume_header at len))) }
+    ensures told { IfSome (told_image (S.state store.old)) (λ image. Answers result (result_of image (volume_header at len))) }
     ensures tells { IfSome (told_image (S.state store.old)) (λ image. TellsHeader image at len result) }
     ensures sound { IfOk result IsSoundHeader }
     ensures begins { IfOk result (λ header. header.at ≡ at) }

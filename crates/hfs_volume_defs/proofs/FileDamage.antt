@@ -2,9 +2,9 @@
 use Rattle.std.specs.Prelude.{◌≡◌, ℕ, Bool, true, false, Option, Some, None, Result, Ok, Err, List, refl}
 use Rattle.std.proofs.Common.{ap, sym, ◌∙◌, subst, ⊎_elim}
 use Rattle.std.proofs.lemmas.Bool.{true≢false}
-use Rattle.image_defs.specs.Ask.{run, given, ◌>>=◌}
-use Rattle.image_defs.specs.Looks.{bind_gives, bind_refuses}
-use Rattle.image_defs.specs.Runs.{run_given, each_result}
+use Rattle.image_defs.specs.Ask.{result_of, given, ◌>>=◌}
+use Rattle.image_defs.proofs.Looks.{bind_gives, bind_refuses}
+use Rattle.image_defs.specs.Runs.{result_given, each_result}
 use Rattle.piece_defs.specs.Places.{bytes_through}
 use Rattle.hfs_defs.specs.Forks.{fork_fault, FoundFork, found_or, found_fork}
 use Rattle.hfs_defs.specs.Damage.{IsDamage}
@@ -45,11 +45,11 @@ fork_refused header records fork place fault is = either (fork_fault header reco
 
 -- ---- tree files
 
-leaves_refused : (image : List ℕ) (header : Header) (records : List OverflowRecord) (fork : Fork) (place : ℕ) (fault : Refusal) → run image (fork_leaves header records fork place) ≡ Err fault → found_fork header records fork place ≡ Err fault
+leaves_refused : (image : List ℕ) (header : Header) (records : List OverflowRecord) (fork : Fork) (place : ℕ) (fault : Refusal) → result_of image (fork_leaves header records fork place) ≡ Err fault → found_fork header records fork place ≡ Err fault
 leaves_refused image header records fork place fault is = either (found_fork header records fork place) refl
   where
     either : (found : Result FoundFork Refusal) → found_fork header records fork place ≡ found → found ≡ Err fault
-    either (Ok found) there = absurd (not_both _ fault (run image (fork_leaves header records fork place)) (fork_leaves_found image header records fork place found there) is)
+    either (Ok found) there = absurd (not_both _ fault (result_of image (fork_leaves header records fork place)) (fork_leaves_found image header records fork place found there) is)
     either (Err e) there = ap Err (same_error {X = LeafList} e fault (sym (fork_leaves_refused image header records fork place e there) ∙ is))
 
 -- the leaf records that were read of a fork
@@ -58,12 +58,12 @@ pub record AreLeaves (image : List ℕ) (header : Header) (records : List Overfl
   pub is : found_fork header records fork place ≡ Ok found
   pub same : leaves ≡ leaves_of (tree_file (bytes_through image found.pieces) found.pieces place)
 
-leaves_given : (image : List ℕ) (header : Header) (records : List OverflowRecord) (fork : Fork) (place : ℕ) (leaves : LeafList) → run image (fork_leaves header records fork place) ≡ Ok leaves → AreLeaves image header records fork place leaves
+leaves_given : (image : List ℕ) (header : Header) (records : List OverflowRecord) (fork : Fork) (place : ℕ) (leaves : LeafList) → result_of image (fork_leaves header records fork place) ≡ Ok leaves → AreLeaves image header records fork place leaves
 leaves_given image header records fork place leaves is = either (found_fork header records fork place) refl
   where
     either : (found : Result FoundFork Refusal) → found_fork header records fork place ≡ found → AreLeaves image header records fork place leaves
     either (Ok found) there = record { found = found; is = there; same = same_value leaves _ (sym is ∙ fork_leaves_found image header records fork place found there) }
-    either (Err e) there = absurd (not_both leaves e (run image (fork_leaves header records fork place)) is (fork_leaves_refused image header records fork place e there))
+    either (Err e) there = absurd (not_both leaves e (result_of image (fork_leaves header records fork place)) is (fork_leaves_refused image header records fork place e there))
 
 -- a value of leaf records refuses those that don't pass a test, and no others
 pub record Tests {X : Type 0} (value : Leaf → Result X Refusal) (is_record : List ℕ → Bool) (bad : Sort) : Type 0 where
@@ -75,7 +75,7 @@ module _ {X : Type 0} (value : Leaf → Result X Refusal) (is_record : List ℕ 
   abbrev IsFalse : Sort → ℕ → Type 0
   IsFalse = IsFalseInFile image header records fork place is_record bad
 
-  leaf_refused : (leaves : LeafList) (fault : Refusal) → run image (fork_leaves header records fork place) ≡ Ok leaves → each_leaf value leaves ≡ Err fault → IsDamage IsFalse fault
+  leaf_refused : (leaves : LeafList) (fault : Refusal) → result_of image (fork_leaves header records fork place) ≡ Ok leaves → each_leaf value leaves ≡ Err fault → IsDamage IsFalse fault
   leaf_refused leaves fault are is =
       ⊎_elim
       (λ refused.
@@ -88,23 +88,23 @@ module _ {X : Type 0} (value : Leaf → Result X Refusal) (is_record : List ℕ 
       damage_map (IsFalseInTree file) IsFalse fault (λ sort at false'. OfTree of.found sort at of.is false') ((leaves_law file).stops fault (ap (λ list. list.stop) (sym of.same) ∙ stopped)))
       (stop_refuses leaves.stop (each_result value leaves.records) fault is)
 
-  pub file_refused : (fault : Refusal) → run image (fork_leaves header records fork place >>= (λ leaves. given (each_leaf value leaves))) ≡ Err fault → IsDamage IsFalse fault
+  pub file_refused : (fault : Refusal) → result_of image (fork_leaves header records fork place >>= (λ leaves. given (each_leaf value leaves))) ≡ Err fault → IsDamage IsFalse fault
   file_refused fault is =
       ⊎_elim
       (λ first. damage_map (IsFalseInFork header records fork place) IsFalse fault (λ sort at false'. OfFork sort at false') (fork_refused header records fork place fault (leaves_refused image header records fork place fault first)))
-      (λ later. leaf_refused later.0 fault later.1 (sym (run_given image (each_leaf value later.0)) ∙ later.2))
+      (λ later. leaf_refused later.0 fault later.1 (sym (result_given image (each_leaf value later.0)) ∙ later.2))
       (bind_refuses image (fork_leaves header records fork place) (λ leaves. given (each_leaf value leaves)) fault is)
 
-  pub file_passes : (xs : List X) (sort : Sort) (at : ℕ) → run image (fork_leaves header records fork place >>= (λ leaves. given (each_leaf value leaves))) ≡ Ok xs → IsFalse sort at → ⊥
+  pub file_passes : (xs : List X) (sort : Sort) (at : ℕ) → result_of image (fork_leaves header records fork place >>= (λ leaves. given (each_leaf value leaves))) ≡ Ok xs → IsFalse sort at → ⊥
   file_passes xs sort at is false' =
       let read = bind_gives image (fork_leaves header records fork place) (λ leaves. given (each_leaf value leaves)) xs is in
       let leaves : LeafList = read.0 in
       let of = leaves_given image header records fork place leaves read.1 in
-      let all = stop_gives leaves.stop (each_result value leaves.records) xs (sym (run_given image (each_leaf value leaves)) ∙ read.2) in
+      let all = stop_gives leaves.stop (each_result value leaves.records) xs (sym (result_given image (each_leaf value leaves)) ∙ read.2) in
       none leaves of all.0 all.1 read.1 false'
     where
       none : (leaves : LeafList) (of : AreLeaves image header records fork place leaves) → each_result value leaves.records ≡ Ok xs → leaves.stop ≡ None
-          → run image (fork_leaves header records fork place) ≡ Ok leaves → IsFalse sort at → ⊥
+          → result_of image (fork_leaves header records fork place) ≡ Ok leaves → IsFalse sort at → ⊥
       none leaves of all stop are (OfFork sort at wrong) = (fork_damage_law header records fork place).passes_all sort at (found_gives header records fork place of.found of.is).0 wrong
       none leaves of all stop are (OfTree found sort at there wrong) =
           let file : FoundFork → TreeFile = λ f. tree_file (bytes_through image f.pieces) f.pieces place in

@@ -3,7 +3,7 @@ use Rattle.std.specs.Prelude.{◌≡◌, ℕ, ◌+◌, ◌==◌, zero, suc, Bool
 use Rattle.std.proofs.Common.{ap, sym, ◌∙◌, subst, ◌⊎◌, inl, inr, ⊎_elim}
 use Rattle.image_defs.specs.Runs.{with_value, each_result}
 use Rattle.order_defs.specs.Sorted.{sorted_names}
-use Rattle.rx_tree.specs.FoundPart.{FoundPart}
+use Rattle.rx_tree.specs.PartValue.{PartValue}
 use Rattle.rx_tree.specs.declared.file.FileEntry.{FileEntry}
 use Rattle.name_defs.specs.Texts.{units_text}
 use Rattle.rx_tree.specs.Path.{joined_path}
@@ -107,17 +107,17 @@ part_refused : (header : Header) (overflow : List OverflowRecord) (file fork_typ
 unfolding fork_part
 part_refused header overflow file fork_type fork place unreadable name fault is = either _ (fork_fault header (records_of overflow file fork_type) fork place) refl is
   where
-    either : (part : FoundPart) (found : Option Refusal) → fork_fault header (records_of overflow file fork_type) fork place ≡ found → unless found part ≡ Err fault
+    either : (part : PartValue) (found : Option Refusal) → fork_fault header (records_of overflow file fork_type) fork place ≡ found → unless found part ≡ Err fault
         → IsDamage (IsFalseInFork header (records_of overflow file fork_type) fork place) fault
     either part None there same = absurd cc
-    either part (Some e) there same = (fork_damage_law header (records_of overflow file fork_type) fork place).stops fault (there ∙ ap Some (same_error {X = FoundPart} e fault same))
+    either part (Some e) there same = (fork_damage_law header (records_of overflow file fork_type) fork place).stops fault (there ∙ ap Some (same_error {X = PartValue} e fault same))
 
-part_passes : (header : Header) (overflow : List OverflowRecord) (file fork_type : ℕ) (fork : Fork) (place : ℕ) (unreadable : Bool) (name : List ℕ) (part : FoundPart) (sort : Sort) (at : ℕ)
+part_passes : (header : Header) (overflow : List OverflowRecord) (file fork_type : ℕ) (fork : Fork) (place : ℕ) (unreadable : Bool) (name : List ℕ) (part : PartValue) (sort : Sort) (at : ℕ)
     → fork_part header overflow file fork_type fork place unreadable name ≡ Ok part → IsFalseInFork header (records_of overflow file fork_type) fork place sort at → ⊥
 unfolding fork_part
 part_passes header overflow file fork_type fork place unreadable name part sort at is = (fork_damage_law header (records_of overflow file fork_type) fork place).passes_all sort at (either _ (fork_fault header (records_of overflow file fork_type) fork place) is)
   where
-    either : (found : FoundPart) (fault : Option Refusal) → unless fault found ≡ Ok part → fault ≡ None
+    either : (found : PartValue) (fault : Option Refusal) → unless fault found ≡ Ok part → fault ≡ None
     either found None same = refl
     either found (Some e) same = absurd cc
 
@@ -154,22 +154,22 @@ parts_refused header overflow entries front entry behind (Some info) fault whole
         (λ never. absurd cc)
         (followed_refuses (fork_part header overflow entry.id 255 info.resource_fork (entry.body_at + 168) (is_unreadable entry) (codes "rsrc")) (Ok []) fault same)
 
-data_passes : (header : Header) (overflow : List OverflowRecord) (entry : Entry) (info : FileInfo) (parts : List FoundPart) (sort : Sort) (place : ℕ) → fork_parts header overflow entry (Some info) ≡ Ok parts
+data_passes : (header : Header) (overflow : List OverflowRecord) (entry : Entry) (info : FileInfo) (parts : List PartValue) (sort : Sort) (place : ℕ) → fork_parts header overflow entry (Some info) ≡ Ok parts
     → IsFalseInFork header (records_of overflow entry.id 0) info.data_fork (entry.body_at + 88) sort place → ⊥
 data_passes header overflow entry info parts sort place is =
     let first = (followed_gives (fork_part header overflow entry.id 0 info.data_fork (entry.body_at + 88) (is_unreadable entry) []) _ parts is).0 in
     part_passes header overflow entry.id 0 info.data_fork (entry.body_at + 88) (is_unreadable entry) [] first.0 sort place first.1
 
-resource_passes : (header : Header) (overflow : List OverflowRecord) (entry : Entry) (info : FileInfo) (parts : List FoundPart) (sort : Sort) (place : ℕ) → fork_parts header overflow entry (Some info) ≡ Ok parts
+resource_passes : (header : Header) (overflow : List OverflowRecord) (entry : Entry) (info : FileInfo) (parts : List PartValue) (sort : Sort) (place : ℕ) → fork_parts header overflow entry (Some info) ≡ Ok parts
     → is_empty_fork info.resource_fork ≡ false → IsFalseInFork header (records_of overflow entry.id 255) info.resource_fork (entry.body_at + 168) sort place → ⊥
 resource_passes header overflow entry info parts sort place is has =
     let rest = (followed_gives (fork_part header overflow entry.id 0 info.data_fork (entry.body_at + 88) (is_unreadable entry) []) _ parts is).1 in
     let there = either (is_empty_fork info.resource_fork) rest.0 has rest.1 in
     part_passes header overflow entry.id 255 info.resource_fork (entry.body_at + 168) (is_unreadable entry) (codes "rsrc") there.0 sort place there.1
   where
-    either : (empty : Bool) (others : List FoundPart) → empty ≡ false
+    either : (empty : Bool) (others : List PartValue) → empty ≡ false
         → (if empty then Ok [] else followed (fork_part header overflow entry.id 255 info.resource_fork (entry.body_at + 168) (is_unreadable entry) (codes "rsrc")) (Ok [])) ≡ Ok others
-        → (part : FoundPart) × (fork_part header overflow entry.id 255 info.resource_fork (entry.body_at + 168) (is_unreadable entry) (codes "rsrc") ≡ Ok part)
+        → (part : PartValue) × (fork_part header overflow entry.id 255 info.resource_fork (entry.body_at + 168) (is_unreadable entry) (codes "rsrc") ≡ Ok part)
     either true others none same = absurd cc
     either false others none same = (followed_gives (fork_part header overflow entry.id 255 info.resource_fork (entry.body_at + 168) (is_unreadable entry) (codes "rsrc")) (Ok []) others same).0
 
@@ -197,7 +197,7 @@ special_refused volume header overflow entries fault is =
 
 -- the parts of an entry whose files were found
 entry_parts : (volume : ℕ) (header : Header) (overflow : List OverflowRecord) (entries : List Entry) (named : List NamedEntry) (files : List FileEntry) (front : List Entry) (entry : Entry) (behind : List Entry)
-    → named_entries entries ≡ Ok named → each_result (entry_file volume header overflow) named ≡ Ok files → listed entries ≡ front ++ entry ∷ behind → (parts : List FoundPart) × (fork_parts header overflow entry entry.info ≡ Ok parts)
+    → named_entries entries ≡ Ok named → each_result (entry_file volume header overflow) named ≡ Ok files → listed entries ≡ front ++ entry ∷ behind → (parts : List PartValue) × (fork_parts header overflow entry entry.info ≡ Ok parts)
 unfolding entry_file
 entry_parts volume header overflow entries named files front entry behind all are whole =
     let P : List Entry → Type 0 = λ list. each_result (named_entry entries) list ≡ Ok named in

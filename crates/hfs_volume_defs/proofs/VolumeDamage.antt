@@ -4,10 +4,10 @@ use Rattle.std.specs.List.{sum_by, filter_map}
 use Rattle.std.proofs.Common.{ap, sym, ◌∙◌, subst, ⊎_elim, arith}
 use Rattle.std.proofs.lemmas.Bool.{leb-true, leb-false, eqb-false}
 use Rattle.std.proofs.lemmas.Bool.Decides.{Decides-eqb}
-use Rattle.image_defs.specs.Ask.{Ask, Done, run, check, given, ◌>>=◌}
-use Rattle.image_defs.specs.Looks.{bind_gives, check_gives, given_gives, bind_refuses, check_refuses, given_refuses}
-use Rattle.image_defs.specs.Runs.{run_given, run_bind_ok, run_bind_err, with_value, each_result}
-use Rattle.rx_tree.specs.FoundTree.{FoundTree}
+use Rattle.image_defs.specs.Ask.{Ask, Done, result_of, check, given, ◌>>=◌}
+use Rattle.image_defs.proofs.Looks.{bind_gives, check_gives, given_gives, bind_refuses, check_refuses, given_refuses}
+use Rattle.image_defs.specs.Runs.{result_given, result_bind_ok, result_bind_err, with_value, each_result}
+use Rattle.rx_tree.specs.TreeValue.{TreeValue}
 use Rattle.rx_tree.specs.declared.file.FileEntry.{FileEntry}
 use Rattle.hfs_defs.specs.Header.{volume_header}
 use Rattle.hfs_defs.specs.Forks.{blocks_in, records_of}
@@ -81,7 +81,7 @@ entry_tests = record {
 
 -- ---- the overflow records and the entries
 
-more_extents : (image : List ℕ) (at len volume : ℕ) (header : Header) (fault : Refusal) → HasHeader image at len header → run image (volume_overflow header) ≡ Err fault → IsWrong image at len volume fault
+more_extents : (image : List ℕ) (at len volume : ℕ) (header : Header) (fault : Refusal) → HasHeader image at len header → result_of image (volume_overflow header) ≡ Err fault → IsWrong image at len volume fault
 unfolding volume_overflow
 more_extents image at len volume header fault has is =
     ⊎_elim
@@ -93,7 +93,7 @@ more_extents image at len volume header fault has is =
     (λ whole. fork_leaves header [] header.extents (extents_at header) >>= (λ leaves. given (overflow_records leaves))) fault is)
 
 -- what the overflow records of a volume that were read say of it
-overflow_read : (image : List ℕ) (header : Header) (overflow : List OverflowRecord) → run image (volume_overflow header) ≡ Ok overflow
+overflow_read : (image : List ℕ) (header : Header) (overflow : List OverflowRecord) → result_of image (volume_overflow header) ≡ Ok overflow
     → (blocks_in header.extents.extents ≡ header.extents.total_blocks)
     × ((sort : Sort) (place : ℕ) → IsFalseInFile image header [] header.extents (extents_at header) is_overflow_record ExtentsRecord sort place → ⊥)
 unfolding volume_overflow
@@ -106,22 +106,22 @@ overflow_read image header overflow is =
 
 -- a program whose value is changed refuses what it refuses
 changed_refuses : {L X Y : Type 0} (image : List ℕ) (ask : Ask Refusal L) (result : L → Result X Refusal) (change : X → Y) (fault : Refusal)
-    → run image (ask >>= (λ l. given (with_value change (result l)))) ≡ Err fault → run image (ask >>= (λ l. given (result l))) ≡ Err fault
+    → result_of image (ask >>= (λ l. given (with_value change (result l)))) ≡ Err fault → result_of image (ask >>= (λ l. given (result l))) ≡ Err fault
 changed_refuses image ask result change fault is =
     ⊎_elim
-    (λ first. run_bind_err image ask (λ l. given (result l)) fault first)
-    (λ later. run_bind_ok image ask (λ l. given (result l)) later.0 later.1 ∙ run_given image (result later.0)
-    ∙ value_refuses change (result later.0) fault (sym (run_given image (with_value change (result later.0))) ∙ later.2))
+    (λ first. result_bind_err image ask (λ l. given (result l)) fault first)
+    (λ later. result_bind_ok image ask (λ l. given (result l)) later.0 later.1 ∙ result_given image (result later.0)
+    ∙ value_refuses change (result later.0) fault (sym (result_given image (with_value change (result later.0))) ∙ later.2))
     (bind_refuses image ask (λ l. given (with_value change (result l))) fault is)
 
 changed_gives : {L X Y : Type 0} (image : List ℕ) (ask : Ask Refusal L) (result : L → Result X Refusal) (change : X → Y) (y : Y)
-    → run image (ask >>= (λ l. given (with_value change (result l)))) ≡ Ok y → (x : X) × (run image (ask >>= (λ l. given (result l))) ≡ Ok x)
+    → result_of image (ask >>= (λ l. given (with_value change (result l)))) ≡ Ok y → (x : X) × (result_of image (ask >>= (λ l. given (result l))) ≡ Ok x)
 changed_gives image ask result change y is =
     let read = bind_gives image ask (λ l. given (with_value change (result l))) y is in
-    let value = value_gives change (result read.0) y (sym (run_given image (with_value change (result read.0))) ∙ read.2) in
-    (value.0, run_bind_ok image ask (λ l. given (result l)) read.0 read.1 ∙ run_given image (result read.0) ∙ value.1)
+    let value = value_gives change (result read.0) y (sym (result_given image (with_value change (result read.0))) ∙ read.2) in
+    (value.0, result_bind_ok image ask (λ l. given (result l)) read.0 read.1 ∙ result_given image (result read.0) ∙ value.1)
 
-catalog_refused : (image : List ℕ) (at len volume : ℕ) (header : Header) (overflow : List OverflowRecord) (fault : Refusal) → HasOverflow image at len header overflow → run image (volume_entries header overflow) ≡ Err fault
+catalog_refused : (image : List ℕ) (at len volume : ℕ) (header : Header) (overflow : List OverflowRecord) (fault : Refusal) → HasOverflow image at len header overflow → result_of image (volume_entries header overflow) ≡ Err fault
     → IsWrong image at len volume fault
 unfolding volume_entries
 catalog_refused image at len volume header overflow fault has is =
@@ -130,7 +130,7 @@ catalog_refused image at len volume header overflow fault has is =
     (tree_refused checked_entry is_catalog_record CatalogRecord entry_tests image header (records_of overflow 4 0) header.catalog (catalog_at header) fault
     (changed_refuses image (fork_leaves header (records_of overflow 4 0) header.catalog (catalog_at header)) (each_leaf checked_entry) (filter_map (λ entry. entry)) fault is))
 
-catalog_read : (image : List ℕ) (header : Header) (overflow : List OverflowRecord) (entries : List Entry) → run image (volume_entries header overflow) ≡ Ok entries
+catalog_read : (image : List ℕ) (header : Header) (overflow : List OverflowRecord) (entries : List Entry) → result_of image (volume_entries header overflow) ≡ Ok entries
     → (sort : Sort) (place : ℕ) → IsFalseInFile image header (records_of overflow 4 0) header.catalog (catalog_at header) is_catalog_record CatalogRecord sort place → ⊥
 unfolding volume_entries
 catalog_read image header overflow entries is sort place false' =
@@ -140,7 +140,7 @@ catalog_read image header overflow entries is sort place false' =
 -- ---- the files
 
 files_over : (image : List ℕ) (at len volume : ℕ) (header : Header) (overflow : List OverflowRecord) (entries : List Entry) (named : List NamedEntry) (fault : Refusal) → HasEntries image at len header overflow entries
-    → named_entries entries ≡ Ok named → run image (files_within volume header overflow named) ≡ Err fault → IsWrong image at len volume fault
+    → named_entries entries ≡ Ok named → result_of image (files_within volume header overflow named) ≡ Err fault → IsWrong image at len volume fault
 unfolding files_within
 files_over image at len volume header overflow entries named fault has all is =
     let tested : List FileEntry → Ask Refusal (List FileEntry) = λ files. check (nat_le (run_count files) most_runs) (Limit Runs most_runs) >>= (λ few. Done files) in
@@ -163,7 +163,7 @@ files_over image at len volume header overflow entries named fault has all is =
     done files same = absurd cc
 
 names_over : (image : List ℕ) (at len volume : ℕ) (header : Header) (overflow : List OverflowRecord) (entries : List Entry) (named : List NamedEntry) (fault : Refusal) → HasEntries image at len header overflow entries
-    → named_entries entries ≡ Ok named → run image (names_within (all_names header named)) ≡ Err fault → IsWrong image at len volume fault
+    → named_entries entries ≡ Ok named → result_of image (names_within (all_names header named)) ≡ Err fault → IsWrong image at len volume fault
 unfolding names_within
 names_over image at len volume header overflow entries named fault has all is =
     let names : List (List ℕ) = all_names header named in
@@ -172,14 +172,14 @@ names_over image at len volume header overflow entries named fault has all is =
     (λ few. long (nat_le (sum_by length names) most_path_bytes) refl few.1)
     (check_refuses image (nat_le (length names) most_names) (Limit Names most_names) (λ few. check (nat_le (sum_by length names) most_path_bytes) (Limit PathBytes most_path_bytes)) fault is)
   where
-    long : (short : Bool) → nat_le (sum_by length (all_names header named)) most_path_bytes ≡ short → run image (check short (Limit PathBytes most_path_bytes)) ≡ Err fault → IsWrong image at len volume fault
+    long : (short : Bool) → nat_le (sum_by length (all_names header named)) most_path_bytes ≡ short → result_of image (check short (Limit PathBytes most_path_bytes)) ≡ Err fault → IsWrong image at len volume fault
     long true there same = absurd cc
     long false there same =
         subst (IsWrong image at len volume) (same_error {X = Unit {0}} (Limit PathBytes most_path_bytes) fault same)
         (LongNames header overflow entries named has all (leb-false (sum_by length (all_names header named)) most_path_bytes there))
 
 files_refused : (image : List ℕ) (at len volume : ℕ) (header : Header) (overflow : List OverflowRecord) (entries : List Entry) (fault : Refusal) → HasEntries image at len header overflow entries
-    → run image (volume_files volume header overflow entries) ≡ Err fault → IsWrong image at len volume fault
+    → result_of image (volume_files volume header overflow entries) ≡ Err fault → IsWrong image at len volume fault
 unfolding volume_files
 files_refused image at len volume header overflow entries fault has is =
     ⊎_elim
@@ -199,10 +199,10 @@ files_refused image at len volume header overflow entries fault has is =
 
 -- ---- the volume
 
-below_refused : (image : List ℕ) (size at len volume : ℕ) (header : Header) (fault : Refusal) → HasHeader image at len header → run image (tree_below size volume header) ≡ Err fault → IsWrong image at len volume fault
+below_refused : (image : List ℕ) (size at len volume : ℕ) (header : Header) (fault : Refusal) → HasHeader image at len header → result_of image (tree_below size volume header) ≡ Err fault → IsWrong image at len volume fault
 unfolding tree_below
 below_refused image size at len volume header fault has is =
-    let done : List OverflowRecord → List FileEntry → Ask Refusal FoundTree = λ overflow files. Done (tree_with size volume header overflow files) in
+    let done : List OverflowRecord → List FileEntry → Ask Refusal TreeValue = λ overflow files. Done (tree_with size volume header overflow files) in
     ⊎_elim
     (λ first. more_extents image at len volume header fault has first)
     (λ overflow. ⊎_elim
@@ -214,10 +214,10 @@ below_refused image size at len volume header fault has is =
     (bind_refuses image (volume_entries header overflow.0) (λ entries. volume_files volume header overflow.0 entries >>= done overflow.0) fault overflow.2))
     (bind_refuses image (volume_overflow header) (λ overflow. volume_entries header overflow >>= (λ entries. volume_files volume header overflow entries >>= done overflow)) fault is)
   where
-    never : (tree : FoundTree) → (let a : Result FoundTree Refusal = Ok tree in a ≡ Err fault) → ⊥
+    never : (tree : TreeValue) → (let a : Result TreeValue Refusal = Ok tree in a ≡ Err fault) → ⊥
     never tree same = absurd cc
 
-volume_refused : (image : List ℕ) (at len volume : ℕ) (fault : Refusal) → HasMagic image at len → run image (volume_tree (length image) at len volume) ≡ Err fault → IsWrong image at len volume fault
+volume_refused : (image : List ℕ) (at len volume : ℕ) (fault : Refusal) → HasMagic image at len → result_of image (volume_tree (length image) at len volume) ≡ Err fault → IsWrong image at len volume fault
 unfolding volume_tree
 volume_refused image at len volume fault magic is =
     ⊎_elim
@@ -235,10 +235,10 @@ record IsAccepted (image : List ℕ) (at len volume : ℕ) : Type 0 where
   has : HasHeader image at len header
   short : length image ≤ longest_image
   overflow : List OverflowRecord
-  read : run image (volume_overflow header) ≡ Ok overflow
+  read : result_of image (volume_overflow header) ≡ Ok overflow
   entries : List Entry
-  are : run image (volume_entries header overflow) ≡ Ok entries
-  sound : run image (sound_entries header entries) ≡ Ok tt
+  are : result_of image (volume_entries header overflow) ≡ Ok entries
+  sound : result_of image (sound_entries header entries) ≡ Ok tt
   named : List NamedEntry
   names : named_entries entries ≡ Ok named
   few : length (all_names header named) ≤ most_names
@@ -249,13 +249,13 @@ record IsAccepted (image : List ℕ) (at len volume : ℕ) : Type 0 where
   kept : each_result (special_file volume header overflow) (special_files header) ≡ Ok specials
   runs : run_count (files ++ specials) ≤ most_runs
 
-accepted : (image : List ℕ) (at len volume : ℕ) (tree : FoundTree) → run image (volume_tree (length image) at len volume) ≡ Ok tree → IsAccepted image at len volume
+accepted : (image : List ℕ) (at len volume : ℕ) (tree : TreeValue) → result_of image (volume_tree (length image) at len volume) ≡ Ok tree → IsAccepted image at len volume
 unfolding volume_tree tree_below volume_files names_within files_within
 accepted image at len volume tree is =
     let size : ℕ = length image in
     let header = bind_gives image (volume_header at len) (λ header. check (nat_le size longest_image) (Limit Image longest_image) >>= (λ short. tree_below size volume header)) tree is in
     let h : Header = header.0 in
-    let done : List OverflowRecord → List FileEntry → Ask Refusal FoundTree = λ overflow files. Done (tree_with size volume h overflow files) in
+    let done : List OverflowRecord → List FileEntry → Ask Refusal TreeValue = λ overflow files. Done (tree_with size volume h overflow files) in
     let short = check_gives image (nat_le size longest_image) (Limit Image longest_image) (λ short. tree_below size volume h) tree header.2 in
     let overflow = bind_gives image (volume_overflow h) (λ overflow. volume_entries h overflow >>= (λ entries. volume_files volume h overflow entries >>= done overflow)) tree short.1 in
     let o : List OverflowRecord = overflow.0 in
@@ -290,7 +290,7 @@ accepted image at len volume tree is =
       runs = leb-true (run_count (files.0 ++ specials.0)) most_runs runs.0;
     }
   where
-    passed : (test : Bool) (done : Unit {0}) → run image (check test (Limit PathBytes most_path_bytes)) ≡ Ok done → test ≡ true
+    passed : (test : Bool) (done : Unit {0}) → result_of image (check test (Limit PathBytes most_path_bytes)) ≡ Ok done → test ≡ true
     passed true done same = refl
     passed false done same = absurd cc
 
@@ -301,15 +301,15 @@ module _ (image : List ℕ) (at len volume : ℕ) (ok : IsAccepted image at len 
 
   same_overflow : (P : Header → List OverflowRecord → Type 0) (header : Header) (overflow : List OverflowRecord) → HasOverflow image at len header overflow → P header overflow → P ok.header ok.overflow
   same_overflow P header overflow has holds =
-      let Q : Header → Type 0 = λ h. run image (volume_overflow h) ≡ Ok overflow in
-      let read : run image (volume_overflow ok.header) ≡ Ok overflow = same_header Q header has.header_is has.overflow_is in
+      let Q : Header → Type 0 = λ h. result_of image (volume_overflow h) ≡ Ok overflow in
+      let read : result_of image (volume_overflow ok.header) ≡ Ok overflow = same_header Q header has.header_is has.overflow_is in
       subst (P ok.header) (same_value overflow ok.overflow (sym read ∙ ok.read)) (same_header (λ h. P h overflow) header has.header_is holds)
 
   same_entries : (P : Header → List OverflowRecord → List Entry → Type 0) (header : Header) (overflow : List OverflowRecord) (entries : List Entry) → HasEntries image at len header overflow entries
       → P header overflow entries → P ok.header ok.overflow ok.entries
   same_entries P header overflow entries has holds =
-      let Q : Header → List OverflowRecord → Type 0 = λ h o. run image (volume_entries h o) ≡ Ok entries in
-      let read : run image (volume_entries ok.header ok.overflow) ≡ Ok entries = same_overflow Q header overflow has.below has.entries_are in
+      let Q : Header → List OverflowRecord → Type 0 = λ h o. result_of image (volume_entries h o) ≡ Ok entries in
+      let read : result_of image (volume_entries ok.header ok.overflow) ≡ Ok entries = same_overflow Q header overflow has.below has.entries_are in
       subst (P ok.header ok.overflow) (same_value entries ok.entries (sym read ∙ ok.are)) (same_overflow (λ h o. P h o entries) header overflow has.below holds)
 
   none_false : (sort : Sort) (place : ℕ) → IsFalseAt image at len sort place → ⊥
@@ -361,20 +361,20 @@ module _ (image : List ℕ) (at len volume : ℕ) (ok : IsAccepted image at len 
   nothing_wrong (Unsupported what place) (MoreExtents header has more) = same_header (λ h. blocks_in h.extents.extents ≡ h.extents.total_blocks → ⊥) header has more (overflow_read image ok.header ok.overflow ok.read).0
   nothing_wrong (Limit bound number) wrong = none_over bound number wrong
 
-not_this : (image : List ℕ) (at len volume : ℕ) → (HasMagic image at len → ⊥) → run image (volume_tree (length image) at len volume) ≡ Err NotThis
+not_this : (image : List ℕ) (at len volume : ℕ) → (HasMagic image at len → ⊥) → result_of image (volume_tree (length image) at len volume) ≡ Err NotThis
 unfolding volume_tree
 not_this image at len volume none =
-    run_bind_err image (volume_header at len) (λ header. check (nat_le (length image) longest_image) (Limit Image longest_image) >>= (λ short. tree_below (length image) volume header)) NotThis ((header_law image at len).other none)
+    result_bind_err image (volume_header at len) (λ header. check (nat_le (length image) longest_image) (Limit Image longest_image) >>= (λ short. tree_below (length image) volume header)) NotThis ((header_law image at len).other none)
 
 pub hfs_damage_law : HfsDamageLaw
 hfs_damage_law image at len volume = record {
   other = not_this image at len volume;
   refuses = λ fault magic is. volume_refused image at len volume fault magic is;
   accepts = λ tree fault is wrong. nothing_wrong image at len volume (accepted image at len volume tree is) fault wrong;
-  complete = λ magic nothing. either magic nothing (run image (volume_tree (length image) at len volume)) refl;
+  complete = λ magic nothing. either magic nothing (result_of image (volume_tree (length image) at len volume)) refl;
 }
   where
-    either : HasMagic image at len → ((fault : Refusal) → IsWrong image at len volume fault → ⊥) → (result : Result FoundTree Refusal) → run image (volume_tree (length image) at len volume) ≡ result
-        → (tree : FoundTree) × (run image (volume_tree (length image) at len volume) ≡ Ok tree)
+    either : HasMagic image at len → ((fault : Refusal) → IsWrong image at len volume fault → ⊥) → (result : Result TreeValue Refusal) → result_of image (volume_tree (length image) at len volume) ≡ result
+        → (tree : TreeValue) × (result_of image (volume_tree (length image) at len volume) ≡ Ok tree)
     either magic nothing (Ok tree) is = (tree, is)
     either magic nothing (Err fault) is = absurd (nothing fault (volume_refused image at len volume fault magic is))
