@@ -1,23 +1,25 @@
 -- What refuses the files of a catalog is wrong with their names or forks, and nothing is wrong with those that pass.
-use Rattle.std.specs.Prelude.{◌≡◌, ℕ, ◌+◌, ◌==◌, zero, suc, Bool, true, false, nat_le, if◌then◌else◌, Option, Some, None, Result, Ok, Err, List, [], ◌∷◌, ◌++◌, codes, length, refl}
-use Rattle.std.proofs.Common.{ap, sym, ◌∙◌, subst, ◌⊎◌, inl, inr, ⊎_elim}
+use Rattle.std.specs.Prelude.{◌≡◌, ℕ, ◌+◌, ◌==◌, zero, suc, Bool, true, false, nat_le, if◌then◌else◌, Option, Some, None, Result, Ok, Err, List, [], ◌∷◌, ◌++◌, codes, length, refl, ◌<◌, ◌≤◌}
+use Rattle.std.proofs.lemmas.List.{length-append}
+use Rattle.std.proofs.lemmas.Bool.Decides.{Decides-eqb}
+use Rattle.std.proofs.lemmas.Bool.{eqb-false, leb-true, leb-false}
+use Rattle.std.proofs.Common.{ap, sym, ◌∙◌, subst, ◌⊎◌, inl, inr, ⊎_elim, arith}
 use Rattle.image_defs.specs.Runs.{with_value, each_result}
 use Rattle.order_defs.specs.Sorted.{sorted_names}
 use Rattle.rx_tree.specs.PartValue.{PartValue}
 use Rattle.rx_tree.specs.declared.file.FileEntry.{FileEntry}
 use Rattle.name_defs.specs.Texts.{units_text}
-use Rattle.rx_tree.specs.Path.{joined_path}
+use Rattle.rx_tree.specs.Path.{joined_path, is_root}
 use Rattle.hfs_defs.specs.Damage.{IsDamage}
 use Rattle.hfs_defs.specs.Forks.{records_of, fork_fault}
 use Rattle.hfs_defs.specs.ForkDamage.{IsFalseInFork}
 use Rattle.hfs_defs.proofs.ForkDamage.{fork_damage_law}
 use Rattle.hfs_volume_defs.specs.Catalog.{Entry, FileInfo}
-use Rattle.hfs_volume_defs.specs.Folders.{is_folder, folder_of, parent_of, name_of, root_path, deepest, longest_path, path_in, path_within, folder_path, own_path, links_to, listed, is_empty_fork}
+use Rattle.hfs_volume_defs.specs.Folders.{is_folder, folder_of, parent_of, name_of, root_path, deepest, longest_path, path_in, path_within, folder_path, own_path, links_to, listed, is_empty_fork, short_path}
 use Rattle.hfs_volume_defs.specs.Files.{NamedEntry, entries_or_own, names_of, named_entry, named_entries, unless, fork_part, followed, fork_parts, is_unreadable, entry_file, SpecialFile, special_files, special_file}
-use Rattle.hfs_volume_defs.specs.Damage.{IsFalseInFiles, InDataFork, InResourceFork, InSpecialFork}
+use Rattle.hfs_volume_defs.specs.Damage.{IsFalseInFiles, InDataFork, InResourceFork, InSpecialFork, IsDeep, IsNameOf, IsPathOf, above, counted_from}
 use Rattle.hfs_volume_defs.proofs.FileDamage.{damage_map}
-use Rattle.hfs_volume_defs.proofs.Results.{same_error, same_value, not_both, value_refuses, value_gives, IsRefusedIn, each_refuses, each_gives_item, given_by, gives_one}
-use Rattle.fault_defs.specs.declared.Bound.{Bound}
+use Rattle.hfs_volume_defs.proofs.Results.{same_error, same_value, value_refuses, value_gives, IsRefusedIn, each_refuses, each_gives_item, given_by, gives_one}
 use Rattle.fault_defs.specs.declared.Bound.TheVariants.{Depth, Path}
 use Rattle.fault_defs.specs.declared.Refusal.{Refusal}
 use Rattle.fault_defs.specs.declared.Refusal.TheVariants.{Limit}
@@ -26,45 +28,223 @@ use Rattle.hfs_defs.specs.declared.forks.Fork.{Fork}
 use Rattle.hfs_defs.specs.declared.forks.OverflowRecord.{OverflowRecord}
 use Rattle.hfs_defs.specs.declared.header.Header.{Header}
 
--- ---- a path is refused by a limit alone
+-- ---- paths
 
-pub record IsLimit (fault : Refusal) : Type 0 where
-  pub bound : Bound
-  pub number : ℕ
-  pub is : fault ≡ Limit bound number
-
-path_limit : (above : Result (List ℕ) Refusal) (name : List ℕ) (fault : Refusal) → (above ≡ Err fault → IsLimit fault) → path_in above name ≡ Err fault → IsLimit fault
-path_limit (Err e) name fault later is = later is
-path_limit (Ok path) name fault later is = either (nat_le (length (joined_path path (units_text name))) longest_path) is
+-- a path has its parent's bytes
+joined_longer : (parent name : List ℕ) → length parent ≤ length (joined_path parent name)
+joined_longer parent name = either (is_root parent)
   where
-    either : (short : Bool) → (if short then Ok (joined_path path (units_text name)) else Err (Limit Path longest_path)) ≡ Err fault → IsLimit fault
-    either true same = absurd cc
-    either false same = record { bound = Path; number = longest_path; is = sym (same_error {X = List ℕ} (Limit Path longest_path) fault same) }
+    either : (root : Bool) → length parent ≤ length (if root then parent ++ name else (parent ++ 47 ∷ name))
+    either true = omega (arith, length-append parent name)
+    either false = omega (arith, length-append parent (47 ∷ name))
 
-within_limit : (left : ℕ) (entries : List Entry) (id : ℕ) (fault : Refusal) → path_within left entries id ≡ Err fault → IsLimit fault
+record IsShortPath (parent : List ℕ) (name path : List ℕ) : Type 0 where
+  is : joined_path parent name ≡ path
+  short : length path ≤ longest_path
+
+short_gives : (parent name path : List ℕ) → short_path (joined_path parent name) ≡ Ok path → IsShortPath parent name path
+short_gives parent name path gives = either (nat_le (length (joined_path parent name)) longest_path) refl gives
+  where
+    either : (short : Bool) → nat_le (length (joined_path parent name)) longest_path ≡ short → (if short then Ok (joined_path parent name) else Err (Limit Path longest_path)) ≡ Ok path → IsShortPath parent name path
+    either false there same = absurd cc
+    either true there same =
+        let is : joined_path parent name ≡ path = same_value (joined_path parent name) path same in
+        let P : List ℕ → Type 0 = λ list. length list ≤ longest_path in
+        record { is = is; short = subst P is (leb-true (length (joined_path parent name)) longest_path there) }
+
+-- the path of a folder that is given is its path, and isn't too long
+record IsFoundPath (entries : List Entry) (id : ℕ) (path : List ℕ) : Type 0 where
+  below : ℕ
+  is : IsPathOf below entries id path
+  short : length path ≤ longest_path
+
+within_gives : (left : ℕ) (entries : List Entry) (id : ℕ) (path : List ℕ) → path_within left entries id ≡ Ok path → IsFoundPath entries id path
 unfolding path_within
-within_limit zero entries id fault is = either (id == 2) is
+within_gives zero entries id path is = either (id == 2) refl is
   where
-    either : (root : Bool) → (if root then Ok root_path else Err (Limit Depth deepest)) ≡ Err fault → IsLimit fault
-    either true same = absurd cc
-    either false same = record { bound = Depth; number = deepest; is = sym (same_error {X = List ℕ} (Limit Depth deepest) fault same) }
-within_limit (suc left) entries id fault is = either (id == 2) (within_limit left entries (parent_of (folder_of entries id)) fault) is
+    either : (root : Bool) → (id == 2) ≡ root → (if root then Ok root_path else Err (Limit Depth deepest)) ≡ Ok path → IsFoundPath entries id path
+    either false there same = absurd cc
+    either true there same =
+        let P : List ℕ → Type 0 = λ list. IsFoundPath entries id list in
+        subst P (same_value root_path path same) (record { below = 0; is = ((Decides-eqb id 2).0 there, refl); short = omega arith })
+within_gives (suc left) entries id path is = either (id == 2) refl (path_within left entries (parent_of (folder_of entries id))) refl (within_gives left entries (parent_of (folder_of entries id))) is
   where
-    either : (root : Bool) → (path_within left entries (parent_of (folder_of entries id)) ≡ Err fault → IsLimit fault)
-        → (if root then Ok root_path else path_in (path_within left entries (parent_of (folder_of entries id))) (name_of (folder_of entries id))) ≡ Err fault → IsLimit fault
-    either true later same = absurd cc
-    either false later same = path_limit (path_within left entries (parent_of (folder_of entries id))) (name_of (folder_of entries id)) fault later same
+    either : (root : Bool) → (id == 2) ≡ root → (parent : Result (List ℕ) Refusal) → path_within left entries (parent_of (folder_of entries id)) ≡ parent
+        → ((list : List ℕ) → path_within left entries (parent_of (folder_of entries id)) ≡ Ok list → IsFoundPath entries (parent_of (folder_of entries id)) list)
+        → (if root then Ok root_path else path_in parent (name_of (folder_of entries id))) ≡ Ok path → IsFoundPath entries id path
+    either true there parent of later same =
+        let P : List ℕ → Type 0 = λ list. IsFoundPath entries id list in
+        subst P (same_value root_path path same) (record { below = 0; is = ((Decides-eqb id 2).0 there, refl); short = omega arith })
+    either false there (Err e) of later same = absurd cc
+    either false there (Ok list) of later same =
+        let found = later list of in
+        let joined = short_gives list (units_text (name_of (folder_of entries id))) path same in
+        record { below = suc found.below; is = (λ root. eqb-false id 2 there root, (list, found.is, sym joined.is)); short = joined.short }
 
-folder_limit : (entries : List Entry) (id : ℕ) (fault : Refusal) → folder_path entries id ≡ Err fault → IsLimit fault
+-- and it is the only one
+within_one : (left n : ℕ) (entries : List Entry) (id : ℕ) (path other : List ℕ) → path_within left entries id ≡ Ok path → IsPathOf n entries id other → other ≡ path
+unfolding path_within
+within_one zero n entries id path other is of = root (id == 2) refl n is of
+  where
+    root : (is_root_id : Bool) → (id == 2) ≡ is_root_id → (n : ℕ) → (if is_root_id then Ok root_path else Err (Limit Depth deepest)) ≡ Ok path → IsPathOf n entries id other → other ≡ path
+    root false there n same of = absurd cc
+    root true there zero same of = of.1 ∙ same_value root_path path same
+    root true there (suc n) same of = absurd (of.0 ((Decides-eqb id 2).0 there))
+within_one (suc left) n entries id path other is of =
+    either (id == 2) refl (path_within left entries (parent_of (folder_of entries id))) refl n
+    (λ m list front were there. within_one left m entries (parent_of (folder_of entries id)) list front were there) is of
+  where
+    either : (is_root_id : Bool) → (id == 2) ≡ is_root_id → (parent : Result (List ℕ) Refusal) → path_within left entries (parent_of (folder_of entries id)) ≡ parent → (n : ℕ)
+        → ((m : ℕ) (list front : List ℕ) → path_within left entries (parent_of (folder_of entries id)) ≡ Ok list → IsPathOf m entries (parent_of (folder_of entries id)) front → front ≡ list)
+        → (if is_root_id then Ok root_path else path_in parent (name_of (folder_of entries id))) ≡ Ok path → IsPathOf n entries id other → other ≡ path
+    either true there parent were zero later same of = of.1 ∙ same_value root_path path same
+    either true there parent were (suc n) later same of = absurd (of.0 ((Decides-eqb id 2).0 there))
+    either false there parent were zero later same of = absurd (eqb-false id 2 there of.0)
+    either false there (Err e) were (suc n) later same of = absurd cc
+    either false there (Ok list) were (suc n) later same of =
+        let joined = short_gives list (units_text (name_of (folder_of entries id))) path same in
+        let below : of.1.0 ≡ list = later n list of.1.0 were of.1.1 in
+        of.1.2 ∙ ap (λ front. joined_path front (units_text (name_of (folder_of entries id)))) below ∙ joined.is
+
+-- a folder within reach of the root has no fault but a path that is too long
+record IsLongPath (entries : List Entry) (id : ℕ) : Type 0 where
+  below : ℕ
+  path : List ℕ
+  is : IsPathOf below entries id path
+  long : longest_path < length path
+
+abbrev WhyNoPath : ℕ → List Entry → ℕ → Refusal → Type 0
+WhyNoPath left entries id fault =
+    ((Limit Depth deepest ≡ fault) × ((n : ℕ) → n ≤ left → above n entries id ≡ 2 → ⊥)) ⊎ ((Limit Path longest_path ≡ fault) × IsLongPath entries id)
+
+-- a path that is given, and isn't too deep
+within_reaches : (left : ℕ) (entries : List Entry) (id : ℕ) (path : List ℕ) → path_within left entries id ≡ Ok path → (n : ℕ) × (n ≤ left) × (above n entries id ≡ 2)
+unfolding path_within
+within_reaches zero entries id path is = either (id == 2) refl is
+  where
+    either : (root : Bool) → (id == 2) ≡ root → (if root then Ok root_path else Err (Limit Depth deepest)) ≡ Ok path → (n : ℕ) × (n ≤ 0) × (above n entries id ≡ 2)
+    either false there same = absurd cc
+    either true there same = (0, omega arith, (Decides-eqb id 2).0 there)
+within_reaches (suc left) entries id path is =
+    either (id == 2) refl (path_within left entries (parent_of (folder_of entries id))) refl (λ list were. within_reaches left entries (parent_of (folder_of entries id)) list were) is
+  where
+    either : (root : Bool) → (id == 2) ≡ root → (parent : Result (List ℕ) Refusal) → path_within left entries (parent_of (folder_of entries id)) ≡ parent
+        → ((list : List ℕ) → path_within left entries (parent_of (folder_of entries id)) ≡ Ok list → (n : ℕ) × (n ≤ left) × (above n entries (parent_of (folder_of entries id)) ≡ 2))
+        → (if root then Ok root_path else path_in parent (name_of (folder_of entries id))) ≡ Ok path → (n : ℕ) × (n ≤ suc left) × (above n entries id ≡ 2)
+    either true there parent were later same = (0, omega arith, (Decides-eqb id 2).0 there)
+    either false there (Err e) were later same = absurd cc
+    either false there (Ok list) were later same =
+        let up = later list were in
+        (suc up.0, omega (arith, up.1), up.2)
+
+long_joined : (entries : List Entry) (id : ℕ) (parent : List ℕ) (below : ℕ) → (id ≡ 2 → ⊥) → IsPathOf below entries (parent_of (folder_of entries id)) parent
+    → longest_path < length (joined_path parent (units_text (name_of (folder_of entries id)))) → IsLongPath entries id
+long_joined entries id parent below other of long = record { below = suc below; path = joined_path parent (units_text (name_of (folder_of entries id))); is = (other, (parent, of, refl)); long = long }
+
+within_refuses : (left : ℕ) (entries : List Entry) (id : ℕ) (fault : Refusal) → path_within left entries id ≡ Err fault → WhyNoPath left entries id fault
+unfolding path_within
+within_refuses zero entries id fault is = either (id == 2) refl is
+  where
+    either : (root : Bool) → (id == 2) ≡ root → (if root then Ok root_path else Err (Limit Depth deepest)) ≡ Err fault → WhyNoPath 0 entries id fault
+    either true there same = absurd cc
+    either false there same = inl (same_error {X = List ℕ} (Limit Depth deepest) fault same, λ n few. none n few)
+      where
+        none : (n : ℕ) → n ≤ 0 → above n entries id ≡ 2 → ⊥
+        none zero few root = eqb-false id 2 there root
+        none (suc n) few root = absurd (omega (arith, few))
+within_refuses (suc left) entries id fault is = either (id == 2) refl (path_within left entries (parent_of (folder_of entries id))) refl (within_refuses left entries (parent_of (folder_of entries id)) fault) is
+  where
+    deeper : (id == 2) ≡ false → ((n : ℕ) → n ≤ left → above n entries (parent_of (folder_of entries id)) ≡ 2 → ⊥) → (n : ℕ) → n ≤ suc left → above n entries id ≡ 2 → ⊥
+    deeper there none zero few root = eqb-false id 2 there root
+    deeper there none (suc n) few root = none n (omega (arith, few)) root
+
+    long : (list : List ℕ) → (id == 2) ≡ false → path_within left entries (parent_of (folder_of entries id)) ≡ Ok list → (short : Bool)
+        → nat_le (length (joined_path list (units_text (name_of (folder_of entries id))))) longest_path ≡ short
+        → (if short then Ok (joined_path list (units_text (name_of (folder_of entries id)))) else Err (Limit Path longest_path)) ≡ Err fault → WhyNoPath (suc left) entries id fault
+    long list there were true its same = absurd cc
+    long list there were false its same =
+        let found = within_gives left entries (parent_of (folder_of entries id)) list were in
+        inr (
+          same_error {X = List ℕ} (Limit Path longest_path) fault same,
+          long_joined entries id list found.below (λ root. eqb-false id 2 there root) found.is (leb-false (length (joined_path list (units_text (name_of (folder_of entries id))))) longest_path its),
+        )
+
+    either : (root : Bool) → (id == 2) ≡ root → (parent : Result (List ℕ) Refusal) → path_within left entries (parent_of (folder_of entries id)) ≡ parent
+        → (path_within left entries (parent_of (folder_of entries id)) ≡ Err fault → WhyNoPath left entries (parent_of (folder_of entries id)) fault)
+        → (if root then Ok root_path else path_in parent (name_of (folder_of entries id))) ≡ Err fault → WhyNoPath (suc left) entries id fault
+    either true there parent were later same = absurd cc
+    either false there (Ok list) were later same = long list there were (nat_le (length (joined_path list (units_text (name_of (folder_of entries id))))) longest_path) refl same
+    either false there (Err e) were later same =
+        ⊎_elim
+        (λ deep. inl (deep.0, deeper there deep.1))
+        (λ over. inr (
+          over.0,
+          long_joined entries id over.1.path over.1.below (λ root. eqb-false id 2 there root) over.1.is (omega (arith, over.1.long, joined_longer over.1.path (units_text (name_of (folder_of entries id))))),
+        ))
+        (later (were ∙ ap Err (same_error {X = List ℕ} e fault same)))
+
+-- why an entry, which is a folder or a file, has no path
+abbrev pub WhyNoName : Bool → List Entry → Entry → Refusal → Type 0
+WhyNoName folder entries entry fault =
+    ((Limit Depth deepest ≡ fault) × IsDeep entries (counted_from folder entry))
+    ⊎ ((Limit Path longest_path ≡ fault) × ((path : List ℕ) × IsNameOf folder entries entry path × (longest_path < length path)))
+
+own_refuses : (entries : List Entry) (entry : Entry) (fault : Refusal) → own_path entries entry ≡ Err fault → WhyNoName (is_folder entry) entries entry fault
 unfolding folder_path
-folder_limit entries id fault is = within_limit deepest entries id fault is
-
-own_limit : (entries : List Entry) (entry : Entry) (fault : Refusal) → own_path entries entry ≡ Err fault → IsLimit fault
-own_limit entries entry fault is = either (is_folder entry) is
+own_refuses entries entry fault is = either (is_folder entry) is
   where
-    either : (folder : Bool) → (if folder then folder_path entries entry.id else path_in (folder_path entries entry.parent) entry.name) ≡ Err fault → IsLimit fault
-    either true same = folder_limit entries entry.id fault same
-    either false same = path_limit (folder_path entries entry.parent) entry.name fault (folder_limit entries entry.parent fault) same
+    long : (list : List ℕ) → path_within deepest entries entry.parent ≡ Ok list → (short : Bool) → nat_le (length (joined_path list (units_text entry.name))) longest_path ≡ short
+        → (if short then Ok (joined_path list (units_text entry.name)) else Err (Limit Path longest_path)) ≡ Err fault → WhyNoName false entries entry fault
+    long list were true its same = absurd cc
+    long list were false its same =
+        let found = within_gives deepest entries entry.parent list were in
+        inr (
+          same_error {X = List ℕ} (Limit Path longest_path) fault same,
+          (joined_path list (units_text entry.name), (found.below, (list, found.is, refl)), leb-false (length (joined_path list (units_text entry.name))) longest_path its),
+        )
+
+    file : (parent : Result (List ℕ) Refusal) → path_within deepest entries entry.parent ≡ parent → path_in parent entry.name ≡ Err fault → WhyNoName false entries entry fault
+    file (Ok list) were same = long list were (nat_le (length (joined_path list (units_text entry.name))) longest_path) refl same
+    file (Err e) were same =
+        ⊎_elim (λ deep. inl deep)
+        (λ over. inr (over.0, (joined_path over.1.path (units_text entry.name), (over.1.below, (over.1.path, over.1.is, refl)), omega (arith, over.1.long, joined_longer over.1.path (units_text entry.name)))))
+        (within_refuses deepest entries entry.parent fault (were ∙ ap Err (same_error {X = List ℕ} e fault same)))
+
+    either : (folder : Bool) → (if folder then folder_path entries entry.id else path_in (folder_path entries entry.parent) entry.name) ≡ Err fault → WhyNoName folder entries entry fault
+    either true same = ⊎_elim (λ deep. inl deep) (λ over. inr (over.0, (over.1.path, (over.1.below, over.1.is), over.1.long))) (within_refuses deepest entries entry.id fault same)
+    either false same = file (path_within deepest entries entry.parent) refl same
+
+-- an entry that has a path is neither too deep nor has a path that is too long
+own_gives : (entries : List Entry) (entry : Entry) (path : List ℕ) → own_path entries entry ≡ Ok path
+    → (IsDeep entries (counted_from (is_folder entry) entry) → ⊥) × ((other : List ℕ) → IsNameOf (is_folder entry) entries entry other → longest_path < length other → ⊥)
+unfolding folder_path
+own_gives entries entry path is = either (is_folder entry) is
+  where
+    file : (parent : Result (List ℕ) Refusal) → path_within deepest entries entry.parent ≡ parent → path_in parent entry.name ≡ Ok path
+        → (IsDeep entries entry.parent → ⊥) × ((other : List ℕ) → IsNameOf false entries entry other → longest_path < length other → ⊥)
+    file (Err e) were same = absurd cc
+    file (Ok list) were same =
+        let up = within_reaches deepest entries entry.parent list were in
+        let joined = short_gives list (units_text entry.name) path same in (
+          λ deep. deep up.0 up.1 up.2,
+          λ other of long.
+              let front : of.1.0 ≡ list = within_one deepest of.0 entries entry.parent list of.1.0 were of.1.1 in
+              let whole : other ≡ path = of.1.2 ∙ ap (λ one. joined_path one (units_text entry.name)) front ∙ joined.is in
+              let lengths : length other ≡ length path = ap length whole in
+              absurd (omega (arith, long, lengths, joined.short)),
+        )
+
+    either : (folder : Bool) → (if folder then folder_path entries entry.id else path_in (folder_path entries entry.parent) entry.name) ≡ Ok path
+        → (IsDeep entries (counted_from folder entry) → ⊥) × ((other : List ℕ) → IsNameOf folder entries entry other → longest_path < length other → ⊥)
+    either true same =
+        let up = within_reaches deepest entries entry.id path same in
+        let found = within_gives deepest entries entry.id path same in (
+          λ deep. deep up.0 up.1 up.2,
+          λ other of long.
+              let lengths : length other ≡ length path = ap length (within_one deepest of.0 entries entry.id path other same of.1) in
+              absurd (omega (arith, long, lengths, found.short)),
+        )
+    either false same = file (path_within deepest entries entry.parent) refl same
 
 -- ---- names
 
@@ -72,18 +252,20 @@ own_limit entries entry fault is = either (is_folder entry) is
 pub record IsRefusedName (entries : List Entry) (fault : Refusal) : Type 0 where
   pub file : IsRefusedIn (named_entry entries) (listed entries) fault
   pub name : IsRefusedIn (own_path entries) (entries_or_own (links_to entries file.item.id) file.item) fault
-  pub limit : IsLimit fault
+  pub why : WhyNoName (is_folder name.item) entries name.item fault
 
 pub name_refused : (entries : List Entry) (fault : Refusal) → named_entries entries ≡ Err fault → IsRefusedName entries fault
 name_refused entries fault is =
     let file = each_refuses (named_entry entries) (listed entries) fault is in
     let own : List Entry = entries_or_own (links_to entries file.item.id) file.item in
     let name = each_refuses (own_path entries) own fault (value_refuses sorted_names (each_result (own_path entries) own) fault (value_refuses _ (names_of entries file.item) fault file.is)) in
-    record { file = file; name = name; limit = own_limit entries name.item fault name.is }
+    record { file = file; name = name; why = own_refuses entries name.item fault name.is }
 
-pub name_passes : (entries : List Entry) (named : List NamedEntry) (front : List Entry) (entry : Entry) (behind others : List Entry) (one : Entry) (more : List Entry) (fault : Refusal)
-    → named_entries entries ≡ Ok named → listed entries ≡ front ++ entry ∷ behind → entries_or_own (links_to entries entry.id) entry ≡ others ++ one ∷ more → own_path entries one ≡ Err fault → ⊥
-name_passes entries named front entry behind others one more fault all whole each refused =
+-- each name of a file that was found has a path
+pub name_found : (entries : List Entry) (named : List NamedEntry) (front : List Entry) (entry : Entry) (behind others : List Entry) (one : Entry) (more : List Entry)
+    → named_entries entries ≡ Ok named → listed entries ≡ front ++ entry ∷ behind → entries_or_own (links_to entries entry.id) entry ≡ others ++ one ∷ more
+    → (IsDeep entries (counted_from (is_folder one) one) → ⊥) × ((path : List ℕ) → IsNameOf (is_folder one) entries one path → longest_path < length path → ⊥)
+name_found entries named front entry behind others one more all whole each =
     let P : List Entry → Type 0 = λ list. each_result (named_entry entries) list ≡ Ok named in
     let own : List Entry = entries_or_own (links_to entries entry.id) entry in
     let given = each_gives_item (named_entry entries) front entry behind named (subst P whole all) in
@@ -91,7 +273,7 @@ name_passes entries named front entry behind others one more fault all whole eac
     let paths = value_gives sorted_names (each_result (own_path entries) own) names.0 names.1 in
     let Q : List Entry → Type 0 = λ list. each_result (own_path entries) list ≡ Ok paths.0 in
     let path = each_gives_item (own_path entries) others one more paths.0 (subst Q each paths.1) in
-    not_both path.0 fault (own_path entries one) path.1 refused
+    own_gives entries one path.0 path.1
 
 named_is : (entries : List Entry) (entry : Entry) (named : NamedEntry) → named_entry entries entry ≡ Ok named → entry ≡ named.entry
 named_is entries entry named is = either (names_of entries entry) is

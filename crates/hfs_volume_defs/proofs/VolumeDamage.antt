@@ -1,7 +1,7 @@
 -- What refuses a volume is wrong with it, and nothing is wrong with a volume that has a tree.
 use Rattle.std.specs.Prelude.{◌≡◌, ℕ, ◌==◌, ◌<◌, ◌≤◌, Bool, true, false, if◌then◌else◌, nat_le, Option, Result, Ok, Err, List, [], ◌∷◌, ◌++◌, length, refl}
 use Rattle.std.specs.List.{sum_by, filter_map}
-use Rattle.std.proofs.Common.{ap, sym, ◌∙◌, subst, ⊎_elim, arith}
+use Rattle.std.proofs.Common.{sym, ◌∙◌, subst, ⊎_elim, arith}
 use Rattle.std.proofs.lemmas.Bool.{leb-true, leb-false, eqb-false}
 use Rattle.std.proofs.lemmas.Bool.Decides.{Decides-eqb}
 use Rattle.image_defs.specs.Ask.{Ask, Done, result_of, check, given, ◌>>=◌}
@@ -16,16 +16,16 @@ use Rattle.hfs_defs.specs.Leaves.{Leaf}
 use Rattle.hfs_defs.specs.Overflow.{is_overflow_record, overflow_of, checked_overflow, each_leaf, overflow_records}
 use Rattle.hfs_defs.specs.TreeFiles.{extents_at, catalog_at, fork_leaves, volume_overflow}
 use Rattle.hfs_volume_defs.specs.Catalog.{Entry, RecordKind, FolderRecord, FileRecord, ThreadRecord, NoRecord, record_kind, is_some_kind, is_catalog_record, entry_by, checked_entry}
-use Rattle.hfs_volume_defs.specs.Folders.{listed, links_to, own_path}
+use Rattle.hfs_volume_defs.specs.Folders.{listed, links_to, is_folder}
 use Rattle.hfs_volume_defs.specs.Files.{NamedEntry, named_entries, entry_file, special_files, special_file, entries_or_own}
 use Rattle.hfs_volume_defs.specs.Volume.{volume_entries, sound_entries, all_names, names_within, longest_image, most_names, most_path_bytes, most_runs, run_count, tree_with, files_within, volume_files, tree_below, volume_tree}
 use Rattle.hfs_defs.specs.HeaderDamage.{HasMagic, IsFalseInHeader}
-use Rattle.hfs_volume_defs.specs.Damage.{IsFalseInFile, IsFalseInEntries, IsFalseInFiles, HasHeader, HasOverflow, HasEntries, IsFalseAt, InHeader, InExtents, InCatalog, InEntries, InFiles, MoreExtents, IsOver, LongImage, OfName, ManyNames, LongNames, ManyRuns, IsWrong, HfsDamageLaw}
+use Rattle.hfs_volume_defs.specs.Damage.{IsFalseInFile, IsFalseInEntries, IsFalseInFiles, HasHeader, HasOverflow, HasEntries, IsFalseAt, InHeader, InExtents, InCatalog, InEntries, InFiles, MoreExtents, IsOver, LongImage, DeepName, LongName, IsDeep, IsNameOf, counted_from, ManyNames, LongNames, ManyRuns, IsWrong, HfsDamageLaw}
 use Rattle.hfs_defs.proofs.HeaderDamage.{header_law}
 use Rattle.hfs_volume_defs.proofs.Results.{same_error, same_value, value_refuses, value_gives}
 use Rattle.hfs_volume_defs.proofs.FileDamage.{Tests, file_refused as tree_refused, file_passes as tree_passes}
 use Rattle.hfs_volume_defs.proofs.EntryDamage.{entries_refused, entries_pass}
-use Rattle.hfs_volume_defs.proofs.FilesDamage.{name_refused, name_passes, file_refused, special_refused, files_pass}
+use Rattle.hfs_volume_defs.proofs.FilesDamage.{name_refused, name_found, file_refused, special_refused, files_pass}
 use Rattle.fault_defs.specs.declared.Bound.{Bound}
 use Rattle.fault_defs.specs.declared.Bound.TheVariants.{Image, Names, PathBytes, Runs}
 use Rattle.fault_defs.specs.declared.Refusal.{Refusal}
@@ -187,9 +187,12 @@ files_refused image at len volume header overflow entries fault has is =
     (λ sound. ⊎_elim
     (λ second.
     let refused = name_refused entries fault second in
-    subst (IsWrong image at len volume) (sym refused.limit.is)
-    (OfName header overflow entries refused.file.front refused.file.item refused.file.behind refused.name.front refused.name.item refused.name.behind refused.limit.bound refused.limit.number
-    has refused.file.whole refused.name.whole (refused.name.is ∙ ap Err refused.limit.is)))
+    ⊎_elim
+    (λ deep. subst (IsWrong image at len volume) deep.0
+    (DeepName header overflow entries refused.file.front refused.file.item refused.file.behind refused.name.front refused.name.item refused.name.behind has refused.file.whole refused.name.whole deep.1))
+    (λ long. subst (IsWrong image at len volume) long.0
+    (LongName header overflow entries refused.file.front refused.file.item refused.file.behind refused.name.front refused.name.item refused.name.behind long.1.0 has refused.file.whole refused.name.whole long.1.1 long.1.2))
+    refused.why)
     (λ named. ⊎_elim
     (λ third. names_over image at len volume header overflow entries named.0 fault has named.1 third)
     (λ few. files_over image at len volume header overflow entries named.0 fault has named.1 few.2)
@@ -327,11 +330,16 @@ module _ (image : List ℕ) (at len volume : ℕ) (ok : IsAccepted image at len 
 
   none_over : (bound : Bound) (number : ℕ) → IsOver image at len volume bound number → ⊥
   none_over bound number (LongImage long) = absurd (omega (arith, long, ok.short))
-  none_over bound number (OfName header overflow entries front entry behind others one more kind most has whole each refused) =
+  none_over bound number (DeepName header overflow entries front entry behind others one more has whole each deep) =
       let P : Header → List OverflowRecord → List Entry → Type 0 =
-      λ h o e. (listed e ≡ front ++ entry ∷ behind) × (entries_or_own (links_to e entry.id) entry ≡ others ++ one ∷ more) × (own_path e one ≡ Err (Limit bound number)) in
-      let holds = same_entries P header overflow entries has (whole, each, refused) in
-      name_passes ok.entries ok.named front entry behind others one more (Limit bound number) ok.names holds.0 holds.1 holds.2
+      λ h o e. (listed e ≡ front ++ entry ∷ behind) × (entries_or_own (links_to e entry.id) entry ≡ others ++ one ∷ more) × IsDeep e (counted_from (is_folder one) one) in
+      let holds = same_entries P header overflow entries has (whole, each, deep) in
+      (name_found ok.entries ok.named front entry behind others one more ok.names holds.0 holds.1).0 holds.2
+  none_over bound number (LongName header overflow entries front entry behind others one more path has whole each is long) =
+      let P : Header → List OverflowRecord → List Entry → Type 0 =
+      λ h o e. (listed e ≡ front ++ entry ∷ behind) × (entries_or_own (links_to e entry.id) entry ≡ others ++ one ∷ more) × IsNameOf (is_folder one) e one path in
+      let holds = same_entries P header overflow entries has (whole, each, is) in
+      (name_found ok.entries ok.named front entry behind others one more ok.names holds.0 holds.1).1 path holds.2 long
   none_over bound number (ManyNames header overflow entries named has names many) =
       let P : Header → List OverflowRecord → List Entry → Type 0 = λ h o e. (named_entries e ≡ Ok named) × (most_names < length (all_names h named)) in
       let holds = same_entries P header overflow entries has (names, many) in
