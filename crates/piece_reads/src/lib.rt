@@ -64,3 +64,6 @@ pub fn read_pieces<S: Store>(
     }
     Ok(())
 }
+
+#[cfg(test)]
+mod tests;

@@ -1,0 +1,58 @@
+//! A test of what no clause says: a content is read over a store in memory.
+ghost use Rattle.std.specs.Prelude.{◌≡◌, IfOk};
+
+use super::read_pieces;
+use rx_ranges::{Piece, PieceKind};
+use rx_store::{Fault, MemStore, Store};
+use std::alloc::{AllocError, Global};
+use std::test::Fail;
+
+/// Three bytes from byte 2 on, two zeros, and the first two bytes.
+const PIECES: [Piece; 3] = [
+    Piece {
+        from: 0,
+        len: 3,
+        kind: PieceKind::Disk,
+        at: 2,
+    },
+    Piece {
+        from: 3,
+        len: 2,
+        kind: PieceKind::Zero,
+        at: 0,
+    },
+    Piece {
+        from: 5,
+        len: 2,
+        kind: PieceKind::Disk,
+        at: 0,
+    },
+];
+
+fn store_of(alloc: Global, bytes: &[u8]) -> Result<MemStore, AllocError>
+    ensures { IfOk result (λ store. store.held.image ≡ bytes.now) }
+{
+    MemStore::new(
+        alloc,
+        Vec::from_slice(alloc, bytes)?,
+        Vec::new(alloc),
+        0,
+        0,
+        0,
+    )
+}
+
+#[test]
+fn a_content_is_read_across_its_pieces(rt: HostRuntime) -> Result<(), Fail> {
+    let mut store = store_of(rt.alloc(), b"abcdef")?;
+    let mut read = [1; 5];
+    assert_eq!(rt; read_pieces(&mut store, &PIECES, 7, 1, &mut read), Ok(()));
+    assert_eq!(rt; read.as_slice(), b"de\x00\x00a".as_slice());
+    store.fail_at(vec![in rt.alloc(); 4]?);
+    assert_eq!(rt;
+        read_pieces(&mut store, &PIECES, 7, 1, &mut read),
+        Err(Fault)
+    );
+    assert_eq!(rt; store.faults(), 1);
+    Ok(())
+}
