@@ -2,12 +2,12 @@
 -- there is too much. Of several that hold none comes first.
 use Rattle.std.specs.Prelude.{◌≡◌, ◌≤◌, ℕ, zero, suc, ◌+◌, ◌<◌, Bool, true, false, Some, Ok, Err, List, [], ◌∷◌, ◌++◌, length}
 use Rattle.std.specs.List.{sum_by}
-use Rattle.image_defs.specs.Ask.{run}
+use Rattle.image_defs.specs.Ask.{result_of}
 use Rattle.image_defs.specs.Runs.{each_result}
 use Rattle.piece_defs.specs.Places.{bytes_through}
 use Rattle.name_defs.specs.Texts.{units_text}
 use Rattle.rx_tree.specs.Path.{joined_path}
-use Rattle.rx_tree.specs.FoundTree.{FoundTree}
+use Rattle.rx_tree.specs.TreeValue.{TreeValue}
 use Rattle.rx_tree.specs.declared.file.FileEntry.{FileEntry}
 use Rattle.hfs_defs.specs.Header.{volume_header}
 use Rattle.hfs_defs.specs.HeaderDamage.{HasMagic, IsFalseInHeader}
@@ -39,7 +39,7 @@ pub data IsFalseInFile (image : List ℕ) (header : Header) (records : List Over
   OfFork : (sort : Sort) (at : ℕ) → IsFalseInFork header records fork place sort at → IsFalseInFile image header records fork place is_record bad sort at
   OfTree : (found : FoundFork) (sort : Sort) (at : ℕ) → found_fork header records fork place ≡ Ok found
       → IsFalseInTree (tree_file (bytes_through image found.pieces) found.pieces place) sort at → IsFalseInFile image header records fork place is_record bad sort at
-  OfRecord : (sort : Sort) (leaves : LeafList) (front : List Leaf) (leaf : Leaf) (behind : List Leaf) → sort ≡ bad → run image (fork_leaves header records fork place) ≡ Ok leaves
+  OfRecord : (sort : Sort) (leaves : LeafList) (front : List Leaf) (leaf : Leaf) (behind : List Leaf) → sort ≡ bad → result_of image (fork_leaves header records fork place) ≡ Ok leaves
       → leaves.records ≡ front ++ leaf ∷ behind → is_record leaf.bytes ≡ false → IsFalseInFile image header records fork place is_record bad sort leaf.at
 
 -- the clauses of the entries of a catalog that are false, and where
@@ -61,15 +61,15 @@ pub data IsFalseInFiles (header : Header) (overflow : List OverflowRecord) (entr
 
 -- a volume up to its header, its overflow records, and its entries
 abbrev pub HasHeader : List ℕ → ℕ → ℕ → Header → Type 0
-HasHeader image at len header = run image (volume_header at len) ≡ Ok header
+HasHeader image at len header = result_of image (volume_header at len) ≡ Ok header
 
 pub record HasOverflow (image : List ℕ) (at len : ℕ) (header : Header) (overflow : List OverflowRecord) : Type 0 where
   pub header_is : HasHeader image at len header
-  pub overflow_is : run image (volume_overflow header) ≡ Ok overflow
+  pub overflow_is : result_of image (volume_overflow header) ≡ Ok overflow
 
 pub record HasEntries (image : List ℕ) (at len : ℕ) (header : Header) (overflow : List OverflowRecord) (entries : List Entry) : Type 0 where
   pub below : HasOverflow image at len header overflow
-  pub entries_are : run image (volume_entries header overflow) ≡ Ok entries
+  pub entries_are : result_of image (volume_entries header overflow) ≡ Ok entries
 
 -- the clauses that are false of a volume, and where
 pub data IsFalseAt (image : List ℕ) (at len : ℕ) : Sort → ℕ → Type 0 where
@@ -140,10 +140,10 @@ IsWrong image at len volume (Limit bound number) = IsOver image at len volume bo
 -- A volume without the magic is something else, and one with it isn't. What refuses a volume with the magic is wrong with
 -- it, nothing is wrong with one that has a tree, and one with which nothing is wrong has a tree.
 pub record RefusalsAreTrue (image : List ℕ) (at len volume : ℕ) : Type 0 where
-  pub other : (HasMagic image at len → ⊥) → run image (volume_tree (length image) at len volume) ≡ Err NotThis
-  pub refuses : (fault : Refusal) → HasMagic image at len → run image (volume_tree (length image) at len volume) ≡ Err fault → IsWrong image at len volume fault
-  pub accepts : (tree : FoundTree) (fault : Refusal) → run image (volume_tree (length image) at len volume) ≡ Ok tree → IsWrong image at len volume fault → ⊥
-  pub complete : HasMagic image at len → ((fault : Refusal) → IsWrong image at len volume fault → ⊥) → (tree : FoundTree) × (run image (volume_tree (length image) at len volume) ≡ Ok tree)
+  pub other : (HasMagic image at len → ⊥) → result_of image (volume_tree (length image) at len volume) ≡ Err NotThis
+  pub refuses : (fault : Refusal) → HasMagic image at len → result_of image (volume_tree (length image) at len volume) ≡ Err fault → IsWrong image at len volume fault
+  pub accepts : (tree : TreeValue) (fault : Refusal) → result_of image (volume_tree (length image) at len volume) ≡ Ok tree → IsWrong image at len volume fault → ⊥
+  pub complete : HasMagic image at len → ((fault : Refusal) → IsWrong image at len volume fault → ⊥) → (tree : TreeValue) × (result_of image (volume_tree (length image) at len volume) ≡ Ok tree)
 
 abbrev pub HfsDamageLaw : Type 0
 HfsDamageLaw = (image : List ℕ) (at len volume : ℕ) → RefusalsAreTrue image at len volume
