@@ -1,0 +1,44 @@
+-- The laws of damage that are proved: of slots, of streams, of attribute lists and their content, and of $MFT.
+use Rattle.std.specs.Prelude.{◌≡◌, ℕ, false, Ok, Err, List, []}
+use Rattle.fault_defs.specs.declared.Sort.{Sort}
+use Rattle.fault_defs.specs.declared.Refusal.{Refusal}
+use Rattle.image_defs.specs.Ask.{result_of}
+use Rattle.ntfs_volume_defs.specs.Slots.{Mft, Slot, slot_of}
+use Rattle.ntfs_record_defs.specs.Attributes.{Stream as StreamHeader, NonResident}
+use Rattle.ntfs_volume_defs.specs.Segments.{Held, stream_of, is_resident}
+use Rattle.ntfs_volume_defs.specs.Streams.{Stream}
+use Rattle.ntfs_volume_defs.specs.Lists.{ListContent, Entry, list_content, entries_of}
+use Rattle.ntfs_damage_defs.specs.Told.{IsToldBy}
+use Rattle.ntfs_damage_defs.specs.Wrong.{IsWrongSlot, IsWrongStream, IsWrongList}
+use Rattle.ntfs_damage_defs.specs.SlotDamage.{HasWholeSectors}
+use Rattle.ntfs_damage_defs.specs.EntryDamage.{IsWrongListStream}
+
+-- a slot that is refused for damage has what is wrong, and one that is read has nothing wrong
+abbrev pub SlotRefusedLaw : Type 0
+SlotRefusedLaw = (image : List ℕ) (mft : Mft) (number : ℕ) (refusal : Refusal) → HasWholeSectors mft.boot → result_of image (slot_of mft number) ≡ Err refusal → IsToldBy (IsWrongSlot image mft number) refusal
+
+abbrev pub SlotReadLaw : Type 0
+SlotReadLaw = (image : List ℕ) (mft : Mft) (number : ℕ) (slot : Slot) (sort : Sort) (place : ℕ) → result_of image (slot_of mft number) ≡ Ok slot → IsWrongSlot image mft number sort place → ⊥
+
+-- the same of a stream, from its first segment and the others
+abbrev pub StreamRefusedLaw : Type 0
+StreamRefusedLaw = (mft : Mft) (first : Held) (more : List Held) (header : StreamHeader) (refusal : Refusal) → first.opened.attribute.form ≡ NonResident header → stream_of mft first more ≡ Err refusal
+    → IsToldBy (IsWrongStream mft first more) refusal
+
+abbrev pub StreamReadLaw : Type 0
+StreamReadLaw = (mft : Mft) (first : Held) (more : List Held) (stream : Stream) (sort : Sort) (place : ℕ) → stream_of mft first more ≡ Ok stream → IsWrongStream mft first more sort place → ⊥
+
+-- the same of the entries of an attribute list
+abbrev pub ListRefusedLaw : Type 0
+ListRefusedLaw = (mft : Mft) (list : Held) (content : ListContent) (refusal : Refusal) → entries_of mft list content ≡ Err refusal → IsToldBy (IsWrongList mft list content) refusal
+
+abbrev pub ListReadLaw : Type 0
+ListReadLaw = (mft : Mft) (list : Held) (content : ListContent) (entries : List Entry) (sort : Sort) (place : ℕ) → entries_of mft list content ≡ Ok entries → IsWrongList mft list content sort place → ⊥
+
+-- the same of the content of an attribute list
+abbrev pub ContentRefusedLaw : Type 0
+ContentRefusedLaw = (image : List ℕ) (mft : Mft) (list : Held) (refusal : Refusal) → result_of image (list_content mft list) ≡ Err refusal → IsToldBy (IsWrongListStream mft list) refusal
+
+abbrev pub ContentReadLaw : Type 0
+ContentReadLaw = (image : List ℕ) (mft : Mft) (list : Held) (content : ListContent) (sort : Sort) (place : ℕ) → result_of image (list_content mft list) ≡ Ok content → is_resident list ≡ false
+    → IsWrongStream mft list [] sort place → ⊥

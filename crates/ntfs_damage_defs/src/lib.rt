@@ -1,0 +1,11 @@
+//! When an NTFS volume is damaged: the rules of its structures, each with the place that is told where it is broken.
+//!
+//! `IsFalseAt` says when a volume is damaged, with a constructor for each rule: the boot sector, slots and their records, the run
+//! lists and segments of streams, attribute lists and their entries, `$MFT` through itself, and names. It knows nothing of
+//! the order in which a reader meets them.
+//!
+//! The promised laws of `laws` are of slots, streams, attribute lists and their content: a refusal has its broken rule at its
+//! place, and what is read has none. Those of the boot sector, of `$MFT`, of files and of a whole volume are still to come.
+#![tactic(auto)]
+
+pub mod laws;
