@@ -8,6 +8,9 @@ use Rattle.ntfs_record_defs.specs.Attributes.{Stream as StreamHeader, NonResiden
 use Rattle.ntfs_volume_defs.specs.Segments.{Held, stream_of, is_resident}
 use Rattle.ntfs_volume_defs.specs.Streams.{Stream}
 use Rattle.ntfs_volume_defs.specs.Lists.{ListContent, Entry, list_content, entries_of}
+use Rattle.ntfs_volume_defs.specs.declared.boot.Boot.{Boot}
+use Rattle.ntfs_volume_defs.specs.Mft.{mft_of}
+use Rattle.ntfs_damage_defs.specs.Damage.{IsBoot, IsFalseAt}
 use Rattle.ntfs_damage_defs.specs.Told.{IsToldBy}
 use Rattle.ntfs_damage_defs.specs.Wrong.{IsWrongSlot, IsWrongStream, IsWrongList}
 use Rattle.ntfs_damage_defs.specs.SlotDamage.{HasWholeSectors}
@@ -42,3 +45,8 @@ ContentRefusedLaw = (image : List ℕ) (mft : Mft) (list : Held) (refusal : Refu
 abbrev pub ContentReadLaw : Type 0
 ContentReadLaw = (image : List ℕ) (mft : Mft) (list : Held) (content : ListContent) (sort : Sort) (place : ℕ) → result_of image (list_content mft list) ≡ Ok content → is_resident list ≡ false
     → IsWrongStream mft list [] sort place → ⊥
+
+-- where the boot sector is sound, $MFT is refused for damage only where a rule of the volume is broken at that place
+abbrev pub MftRefusedLaw : Type 0
+MftRefusedLaw = (image : List ℕ) (at len : ℕ) (boot : Boot) → IsBoot image at len boot → HasWholeSectors boot → (refusal : Refusal) → result_of image (mft_of boot) ≡ Err refusal
+    → IsToldBy (IsFalseAt image at len) refusal

@@ -1,5 +1,5 @@
 //! What is proved of damage: the contract of each of these functions is a law, and its body is empty.
-ghost use Rattle.ntfs_damage_defs.specs.DamageLaws.{SlotRefusedLaw, SlotReadLaw, StreamRefusedLaw, StreamReadLaw, ListRefusedLaw, ListReadLaw, ContentRefusedLaw, ContentReadLaw};
+ghost use Rattle.ntfs_damage_defs.specs.DamageLaws.{SlotRefusedLaw, SlotReadLaw, StreamRefusedLaw, StreamReadLaw, ListRefusedLaw, ListReadLaw, ContentRefusedLaw, ContentReadLaw, MftRefusedLaw};
 
 /// A slot that is refused for damage has what is wrong, at the place that is told; one that is read has nothing wrong.
 #[tactic(auto, using(crate::specs::SlotDamage::slot_refuses, crate::specs::SlotDamage::slot_is_sound))]
@@ -27,4 +27,10 @@ pub fn lists_are_refused_for_what_is_wrong()
 pub fn contents_of_lists_are_refused_for_what_is_wrong()
     ensures refused { ContentRefusedLaw }
     ensures read { ContentReadLaw }
+{}
+
+/// Where the boot sector is sound, `$MFT` is refused for damage only where a rule of the volume is broken at that place.
+#[tactic(auto, using(crate::specs::MapDamage::mft_refuses))]
+pub fn the_mft_is_refused_for_what_is_wrong()
+    ensures { MftRefusedLaw }
 {}

@@ -5,7 +5,7 @@
 //! the order in which a reader meets them.
 //!
 //! The promised laws of `laws` are of slots, streams, attribute lists and their content: a refusal has its broken rule at its
-//! place, and what is read has none. Those of the boot sector, of `$MFT`, of files and of a whole volume are still to come.
+//! place, and what is read has none; and that a refusal of `$MFT` has one. Those of files and of a whole volume are to come.
 #![tactic(auto)]
 
 pub mod laws;
