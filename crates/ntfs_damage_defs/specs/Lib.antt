@@ -1,10 +1,6 @@
 pub mod Told
 pub mod Wrong
 pub mod Damage
-pub mod StreamDamage
-pub mod ListDamage
-pub mod RecordFaults
 pub mod SlotDamage
 pub mod EntryDamage
-pub mod MapDamage
 pub mod DamageLaws

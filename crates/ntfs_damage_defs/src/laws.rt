@@ -2,35 +2,35 @@
 ghost use Rattle.ntfs_damage_defs.specs.DamageLaws.{SlotRefusedLaw, SlotReadLaw, StreamRefusedLaw, StreamReadLaw, ListRefusedLaw, ListReadLaw, ContentRefusedLaw, ContentReadLaw, MftRefusedLaw};
 
 /// A slot that is refused for damage has what is wrong, at the place that is told; one that is read has nothing wrong.
-#[tactic(auto, using(crate::specs::SlotDamage::slot_refuses, crate::specs::SlotDamage::slot_is_sound))]
+#[tactic(auto, using(crate::proofs::SlotDamage::slot_refuses, crate::proofs::SlotDamage::slot_is_sound))]
 pub fn slots_are_refused_for_what_is_wrong()
     ensures refused { SlotRefusedLaw }
     ensures read { SlotReadLaw }
 {}
 
 /// The same of a stream, from its segments.
-#[tactic(auto, using(crate::specs::StreamDamage::stream_refuses, crate::specs::StreamDamage::stream_is_sound))]
+#[tactic(auto, using(crate::proofs::StreamDamage::stream_refuses, crate::proofs::StreamDamage::stream_is_sound))]
 pub fn streams_are_refused_for_what_is_wrong()
     ensures refused { StreamRefusedLaw }
     ensures read { StreamReadLaw }
 {}
 
 /// The same of the entries of an attribute list.
-#[tactic(auto, using(crate::specs::ListDamage::list_refuses, crate::specs::ListDamage::list_is_sound))]
+#[tactic(auto, using(crate::proofs::ListDamage::list_refuses, crate::proofs::ListDamage::list_is_sound))]
 pub fn lists_are_refused_for_what_is_wrong()
     ensures refused { ListRefusedLaw }
     ensures read { ListReadLaw }
 {}
 
 /// The same of the content of an attribute list.
-#[tactic(auto, using(crate::specs::EntryDamage::content_refuses, crate::specs::EntryDamage::content_is_sound))]
+#[tactic(auto, using(crate::proofs::EntryDamage::content_refuses, crate::proofs::EntryDamage::content_is_sound))]
 pub fn contents_of_lists_are_refused_for_what_is_wrong()
     ensures refused { ContentRefusedLaw }
     ensures read { ContentReadLaw }
 {}
 
 /// Where the boot sector is sound, `$MFT` is refused for damage only where a rule of the volume is broken at that place.
-#[tactic(auto, using(crate::specs::MapDamage::mft_refuses))]
+#[tactic(auto, using(crate::proofs::MapDamage::mft_refuses))]
 pub fn the_mft_is_refused_for_what_is_wrong()
     ensures { MftRefusedLaw }
 {}

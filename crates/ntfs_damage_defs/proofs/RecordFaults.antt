@@ -1,18 +1,18 @@
 -- Where the faults of a record point: to a stride of it, and to a byte of it or behind its last one.
-use Rattle.std.specs.Prelude.{◌≡◌, ℕ, zero, suc, ◌+◌, ◌-◌, ◌*◌, ◌/◌, ◌%◌, ◌<◌, ◌≤◌, ◌⊎◌, ◌==◌, ◌&&◌, Bool, true, false, nat_le, if◌then◌else◌, Option, Some, None, Result, Ok, Err, List, [], ◌∷◌, refl}
+use Rattle.std.specs.Prelude.{◌≡◌, ℕ, zero, suc, ◌+◌, ◌-◌, ◌*◌, ◌/◌, ◌%◌, ◌<◌, ◌≤◌, ◌⊎◌, ◌==◌, ◌&&◌, Bool, true, false, nat_le, if◌then◌else◌, Option, Some, None, Result, Ok, Err, List, [], ◌∷◌}
 use Rattle.std.specs.Str.{bytes_eq}
-use Rattle.std.proofs.Common.{arith, lit≤, ap, sym, ◌∙◌, subst, ⊎_elim, inl, inr}
+use Rattle.std.proofs.Common.{arith, lit≤, sym, ◌∙◌, subst, ⊎_elim, inl, inr}
 use Rattle.std.proofs.lemmas.Bool.{and_parts, leb-true, cases_lt}
 use Rattle.bytes_defs.specs.Bytes.{part}
 use Rattle.image_defs.specs.Ask.{Ask, Done, result_of, look, check, each, ◌>>=◌, ◌>>◌}
-use Rattle.image_defs.proofs.Looks.{bind_gives, check_gives, bind_refuses, check_refuses}
+use Rattle.image_defs.proofs.Looks.{bind_refuses, check_refuses}
 use Rattle.image_defs.specs.Via.{seen}
 use Rattle.image_defs.proofs.ViaLaws.{result_via}
 use Rattle.ntfs_record_defs.specs.declared.fault.RecordFault.{RecordFault}
 use Rattle.ntfs_record_defs.specs.declared.fault.RecordFault.TheVariants.{NotFile, BadFixup, BadField}
 use Rattle.ntfs_record_defs.specs.Stored.{stored_place, stored_at, entries, array_end, is_array, count_from, ends_with}
 use Rattle.ntfs_record_defs.proofs.StoredLaws.{kept, replaced}
-use Rattle.ntfs_record_defs.specs.Attributes.{Attribute, Opened, is_content, body_of, body_asked, is_end_mark, is_resident, is_length, is_layout, header_size, attribute_of, look_in, opened, attribute_with, attribute_from, attribute_at, unless_ended, next_attribute, and_behind, attributes_within, attributes_from}
+use Rattle.ntfs_record_defs.specs.Attributes.{Attribute, Opened, is_content, body_of, is_end_mark, is_resident, is_length, is_layout, header_size, attribute_of, look_in, opened, attribute_with, attribute_from, attribute_at, unless_ended, next_attribute, and_behind, attributes_within, attributes_from}
 use Rattle.ntfs_record_defs.proofs.AttributeLaws.{attribute_lies, next_some}
 use Rattle.ntfs_record_defs.specs.Record.{Header, FileRecord, is_used_size, stored_attributes, record_within, record_with, record_behind}
 

@@ -1,7 +1,7 @@
 -- A stream that is refused has a segment, or sizes, that break a rule; one that is given has none.
-use Rattle.std.specs.Prelude.{◌≡◌, ℕ, ◌+◌, ◌%◌, ◌^◌, ◌<◌, ◌⊎◌, ◌==◌, ◌||◌, Bool, true, false, nat_lt, if◌then◌else◌, Result, Ok, Err, List, [], ◌∷◌, ◌++◌, refl}
-use Rattle.std.proofs.Common.{arith, ap, sym, ◌∙◌, subst, ⊎_elim, inl, inr, append_assoc}
-use Rattle.std.proofs.lemmas.Bool.{eqb-true, eq-eqb, ltb-true, or_cases, or_left, or_right, lt-ltb, cases_Bool, false≢true}
+use Rattle.std.specs.Prelude.{◌≡◌, ℕ, ◌+◌, ◌%◌, ◌^◌, ◌⊎◌, ◌==◌, ◌||◌, Bool, true, false, nat_lt, if◌then◌else◌, Result, Ok, Err, List, [], ◌∷◌, ◌++◌, refl}
+use Rattle.std.proofs.Common.{ap, sym, ◌∙◌, subst, ⊎_elim, inl, inr, append_assoc}
+use Rattle.std.proofs.lemmas.Bool.{eqb-true, eq-eqb, ltb-true, or_cases, or_left, or_right, lt-ltb, false≢true}
 use Rattle.fault_defs.specs.declared.Sort.{Sort}
 use Rattle.fault_defs.specs.declared.Sort.TheVariants.{RunList, RunCount, SegmentGap, Sizes}
 use Rattle.fault_defs.specs.declared.Refusal.{Refusal}
@@ -13,7 +13,8 @@ use Rattle.ntfs_record_defs.specs.Attributes.{Stream as StreamHeader, Form, Resi
 use Rattle.ntfs_volume_defs.specs.Streams.{Stream}
 use Rattle.ntfs_volume_defs.specs.Slots.{Mft}
 use Rattle.ntfs_volume_defs.specs.Segments.{Held, clusters_in, damaged_at, place_in, attribute_place, counted_runs, segment_runs, and_then_runs, segments_runs, sized_stream, stream_by, stream_of}
-use Rattle.ntfs_damage_defs.specs.Told.{IsToldBy, told_weaker}
+use Rattle.ntfs_damage_defs.specs.Told.{IsToldBy}
+use Rattle.ntfs_damage_defs.proofs.Told.{told_weaker}
 use Rattle.ntfs_damage_defs.specs.Wrong.{IsWrongSegment, WrongRuns, WrongCount, Gap, Twice, IsWrongStream, WrongSegment, TooLarge}
 
 not_equal : (a b : ℕ) → (a == b) ≡ false → a ≡ b → ⊥

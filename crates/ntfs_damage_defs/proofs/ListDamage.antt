@@ -1,5 +1,5 @@
 -- A list whose entries are refused has one that breaks a rule; one whose entries are given has none.
-use Rattle.std.specs.Prelude.{◌≡◌, ℕ, zero, suc, ◌+◌, ◌<◌, ◌≤◌, ◌&&◌, ◌==◌, Bool, true, false, nat_le, if◌then◌else◌, Result, Ok, Err, List, [], ◌∷◌, length, refl}
+use Rattle.std.specs.Prelude.{◌≡◌, ℕ, zero, suc, ◌+◌, ◌<◌, ◌≤◌, Bool, true, false, nat_le, if◌then◌else◌, Result, Ok, Err, List, [], ◌∷◌, length, refl}
 use Rattle.std.proofs.Common.{arith, ap, sym, ◌∙◌, subst}
 use Rattle.std.proofs.lemmas.Bool.{and_parts, leb-true, leb-false, lt-leb, false≢true}
 use Rattle.image_defs.specs.Runs.{with_value}
@@ -40,7 +40,7 @@ entries_refuse (suc count) place bytes at refusal chain refuses =
   where
     by_tests : (past good : Bool) → nat_le (length bytes) at ≡ past → is_entry bytes at ≡ good
         → (if past then Ok []
-          else (if good then with_value (λ more. entry_of bytes at (place at) ∷ more) (entries_within count place bytes (at + entry_length bytes at)) else Err (Damaged ListEntry (place at)))) ≡ Err refusal
+        else (if good then with_value (λ more. entry_of bytes at (place at) ∷ more) (entries_within count place bytes (at + entry_length bytes at)) else Err (Damaged ListEntry (place at)))) ≡ Err refusal
         → (IsEntryAt bytes (at + entry_length bytes at) → entries_within count place bytes (at + entry_length bytes at) ≡ Err refusal → IsBadEntry bytes place refusal) → IsBadEntry bytes place refusal
     by_tests true good is_past is_good refuses later = absurd cc
     by_tests false true is_past is_good refuses later =
@@ -83,7 +83,7 @@ step_given (suc count) place bytes at entries enough below gives = by_tests (nat
   where
     by_tests : (past good : Bool) → past ≡ false → is_entry bytes at ≡ good
         → (if past then Ok []
-          else (if good then with_value (λ more. entry_of bytes at (place at) ∷ more) (entries_within count place bytes (at + entry_length bytes at)) else Err (Damaged ListEntry (place at)))) ≡ Ok entries
+        else (if good then with_value (λ more. entry_of bytes at (place at) ∷ more) (entries_within count place bytes (at + entry_length bytes at)) else Err (Damaged ListEntry (place at)))) ≡ Ok entries
         → (is_entry bytes at ≡ true) × AreGiven place bytes (at + entry_length bytes at)
     by_tests true good is_past is_good gives = absurd cc
     by_tests false false is_past is_good gives = absurd cc

@@ -1,35 +1,35 @@
 -- A $MFT that isn't found breaks a rule.
-use Rattle.std.specs.Prelude.{◌≡◌, ℕ, ◌+◌, ◌*◌, ◌<◌, ◌≤◌, ◌⊎◌, ◌||◌, ◌==◌, Bool, true, false, nat_le, if◌then◌else◌, Option, Some, None, Result, Ok, Err, List, [], ◌∷◌, ◌++◌, refl}
+use Rattle.std.specs.Prelude.{◌≡◌, ℕ, ◌+◌, ◌*◌, ◌⊎◌, ◌==◌, Bool, true, false, nat_le, if◌then◌else◌, Option, Some, None, Result, Ok, Err, List, [], ◌∷◌, ◌++◌, refl}
 use Rattle.std.specs.List.{filter}
-use Rattle.std.specs.Option.{ok_or}
 use Rattle.std.proofs.Common.{arith, ap, sym, ◌∙◌, subst, ⊎_elim, inl, inr, append_assoc}
 use Rattle.std.proofs.lemmas.Bool.{eqb-true, leb-true, leb-false, or_left, false≢true}
-use Rattle.image_defs.specs.Ask.{Done, Stop, result_of, check, given, ◌>>=◌, ◌>>◌}
-use Rattle.image_defs.specs.Runs.{with_value}
+use Rattle.image_defs.specs.Ask.{Done, result_of, given, ◌>>=◌, ◌>>◌}
 use Rattle.image_defs.proofs.Runs.{result_bind_ok, result_given}
 use Rattle.image_defs.proofs.Looks.{bind_gives, given_gives, bind_refuses, check_refuses, given_refuses}
 use Rattle.fault_defs.specs.declared.Sort.{Sort}
 use Rattle.fault_defs.specs.declared.Sort.TheVariants.{MftMap, AttributeMissing}
 use Rattle.fault_defs.specs.declared.Bound.TheVariants.{Slots}
 use Rattle.fault_defs.specs.declared.Refusal.{Refusal}
-use Rattle.fault_defs.specs.declared.Refusal.TheVariants.{Damaged, Limit}
-use Rattle.ntfs_defs.specs.declared.runs.Run.{Run}
+use Rattle.fault_defs.specs.declared.Refusal.TheVariants.{Limit}
 use Rattle.ntfs_record_defs.specs.Attributes.{Stream as StreamHeader, Form, Resident, NonResident, is_resident_form}
 use Rattle.ntfs_record_defs.specs.Record.{FileRecord}
 use Rattle.ntfs_volume_defs.specs.declared.boot.Boot.{Boot}
-use Rattle.ntfs_volume_defs.specs.Streams.{Stream, mapped}
+use Rattle.ntfs_volume_defs.specs.Streams.{mapped}
 use Rattle.ntfs_volume_defs.specs.Slots.{Mft, Slot, Empty, Unused, Used, slots, first_slot_at, slot_of}
 use Rattle.ntfs_volume_defs.specs.Segments.{Held, is_resident, is_unreadable, clusters_in, segment_runs, segments_of, stream_of}
-use Rattle.ntfs_volume_defs.specs.Lists.{Entry, ListContent, attributes_in, list_of, list_content, entries_of, is_named, named_in, record_named, named_attribute}
+use Rattle.ntfs_volume_defs.specs.Lists.{Entry, attributes_in, list_of, list_content, entries_of, named_in, record_named, named_attribute}
 use Rattle.ntfs_volume_defs.specs.Mft.{no_map, first_slot_alone, with_content, with_runs, is_no_map, with_segment, and_then_segments, with_segments, first_base, is_for_content, segment_in, next_segment, segments_behind, mft_entries, all_segments, known_mft, mft_with, mft_behind, mft_of}
-use Rattle.ntfs_volume_laws.proofs.MapLaws.{HasBoot, behind_boot, entry_gives}
-use Rattle.ntfs_damage_defs.specs.Told.{IsToldBy, told_weaker}
-use Rattle.ntfs_damage_defs.specs.Wrong.{IsWrongSlot, IsWrongSegment, IsWrongStream, IsWrongList, IsMissing, NoAttribute}
+use Rattle.ntfs_volume_laws.proofs.MapLaws.{behind_boot, entry_gives}
+use Rattle.ntfs_damage_defs.specs.Told.{IsToldBy}
+use Rattle.ntfs_damage_defs.proofs.Told.{told_weaker}
+use Rattle.ntfs_damage_defs.specs.Wrong.{IsWrongSlot, IsWrongSegment, IsWrongStream, IsWrongList, NoAttribute}
 use Rattle.ntfs_damage_defs.specs.Damage.{IsBoot, HasFirstSlot, IsMftBase, OfMft, AreMftEntries, IsNextEntry, IsMapped, First, Next, IsMftSegment, Own, Listed, known_mft_of, IsFalseAt, WrongSlot, WrongListStream, WrongListEntry, MissingSegment, NoFirstSlot, NoMftBase, NoMapping, NotMapped, NoMftContent, WrongMftSegment, WrongMftStart}
-use Rattle.ntfs_damage_defs.specs.SlotDamage.{HasWholeSectors, slot_refuses}
-use Rattle.ntfs_damage_defs.specs.StreamDamage.{segment_refuses, stream_refuses}
-use Rattle.ntfs_damage_defs.specs.ListDamage.{value_refuses, list_refuses}
-use Rattle.ntfs_damage_defs.specs.EntryDamage.{same_refusal, not_given, not_equal, none_found, IsWrongEntryOf, IsMissed, NamesWrong, entry_refuses, IsWrongListStream, content_refuses}
+use Rattle.ntfs_damage_defs.specs.SlotDamage.{HasWholeSectors}
+use Rattle.ntfs_damage_defs.proofs.SlotDamage.{slot_refuses}
+use Rattle.ntfs_damage_defs.proofs.StreamDamage.{segment_refuses, stream_refuses}
+use Rattle.ntfs_damage_defs.proofs.ListDamage.{value_refuses, list_refuses}
+use Rattle.ntfs_damage_defs.specs.EntryDamage.{IsWrongListStream}
+use Rattle.ntfs_damage_defs.proofs.EntryDamage.{same_refusal, not_given, not_equal, none_found, IsWrongEntryOf, IsMissed, NamesWrong, entry_refuses, content_refuses}
 
 -- ---- more segments
 

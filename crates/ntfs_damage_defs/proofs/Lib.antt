@@ -1,0 +1,7 @@
+pub mod EntryDamage
+pub mod ListDamage
+pub mod MapDamage
+pub mod RecordFaults
+pub mod SlotDamage
+pub mod StreamDamage
+pub mod Told
