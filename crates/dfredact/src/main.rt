@@ -1,4 +1,10 @@
 //! dfredact: makes an inventory of a raw disk image, and erases from it what rules select.
+//!
+//!     dfredact plan IMAGE RULES
+//!
+//! main opens the files that the words name, the image for reading alone, and calls `run` of `redact_cmd` over them and standard
+//! output. It writes the line of the status to standard error and ends with the status' number. A file that can't be opened is
+//! handed in as a store or a source whose calls fail, so `run` answers for it.
 #![tactic(auto)]
 
 use redact_cmd::{Command, Status, parse_words, run, write_status};

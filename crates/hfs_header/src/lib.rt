@@ -1,4 +1,11 @@
 //! Reads the header of an HFS+ volume.
+//!
+//! It stands at byte 1,024 of the volume (TN1150, "Volume Header"). `read_header` answers its fields, or NotThis where signature and
+//! version don't fit, or Damaged(HeaderField) at the size of a block, at the number of blocks, or at the signature of a volume
+//! below 2,560 bytes. It takes no memory.
+//!
+//!     let header = read_header(&mut store, 0, len)?;
+//!     header.block_size       // a power of two of at least 512
 #![tactic(auto)]
 
 ghost use Rattle.std.specs.Prelude.{◌≡◌, ◌≢◌, Err, ◌+◌, ◌≤◌, true, length, IfOk, IfErr, IfSome, OnOk};

@@ -1,4 +1,12 @@
 //! The boot sector of an NTFS volume.
+//!
+//! It has 512 bytes (the public PACKED_BOOT_SECTOR): `NTFS` and four blanks at 3, the bytes of a sector at 0x0B, the sectors of a
+//! cluster at 0x0D, all sectors at 0x28, the first cluster of `$MFT` at 0x30, and the size of a file record at 0x40, where a
+//! negative number is a power of two. `read_boot` answers its fields, or NotThis, Unsupported(BootGeometry) or
+//! Damaged(BootField) at the field. It takes no memory.
+//!
+//!     let boot = read_boot(&mut store, 0, len)?;
+//!     boot.cluster        // the bytes of a cluster
 #![tactic(auto)]
 
 pub(crate) mod sector;

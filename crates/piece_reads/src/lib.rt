@@ -1,4 +1,9 @@
 //! Reads through the pieces of a file.
+//!
+//! `read_pieces` reads a range of a content: its bytes on the disk from the image, and those of a hole as zeros, in one read for each
+//! piece that the range meets.
+//!
+//!     read_pieces(&mut store, pieces.items(), size, from, &mut buffer)?;
 #![tactic(auto)]
 
 ghost use Rattle.std.specs.Prelude.{◌≡◌, ◌+◌, ◌≤◌, length, OnOk, IfSome};
