@@ -1,12 +1,13 @@
 //! Examples with values that are worked out by hand.
 ghost use Rattle.std.specs.Prelude.{◌≡◌, ◌+◌, ◌<◌, ◌≤◌, [], ◌∷◌, IfOk};
+ghost use Rattle.rx_ranges.specs.Path.{IsPath};
 ghost use Rattle.rx_tree.specs.Within.{AreRangesWithin, ArePartsWithin};
 
 use super::*;
 use rule_defs::{Action, Condition, Rule};
 use rx_ranges::{ListKind, NoMemory, Piece, PieceKind, Pieces, Text};
 use rx_store::MemStore;
-use rx_tree::{FileEntry, FileId, Files, Kind, Names, Part, Parts, Role, Volumes};
+use rx_tree::{FileEntry, FileId, Files, FsKind, Kind, Names, Part, Parts, Role, Volume, Volumes};
 use std::test::Fail;
 
 /// The length of the image in these examples.
@@ -42,7 +43,9 @@ fn content(alloc: Global, at: u64, len: u64, slack: RangeList) -> Result<Part, N
 }
 
 fn file(alloc: Global, number: u64, path: &str, part: Part) -> Result<FileEntry, NoMemory>
-    requires { ArePartsWithin LEN (part ∷ []) }
+    requires parts { ArePartsWithin LEN (part ∷ []) }
+    requires path { IsPath path.now }
+    ensures names { IfOk result (λ file. file.names ≡ path.now ∷ []) }
     ensures id { IfOk result (λ file. file.id ≡ record { volume = 1; number = number }) }
     ensures within { IfOk result (λ file. ArePartsWithin LEN file.parts) }
 {
@@ -54,8 +57,8 @@ fn file(alloc: Global, number: u64, path: &str, part: Part) -> Result<FileEntry,
     })
 }
 
-/// A file whose content lies from 8 to 14 with slack up to 16, one that shares the last two of these bytes and one
-/// that shares the slack; and a guard.
+/// One volume, the whole image: a file whose content lies from 8 to 14 with slack up to 16, one that shares the last two
+/// of these bytes and one that shares the slack; and a guard.
 fn tree(alloc: Global, guard: Vec<Range>) -> Result<Tree, NoMemory>
     requires { AreRangesWithin LEN guard.items }
 {
@@ -65,9 +68,15 @@ fn tree(alloc: Global, guard: Vec<Range>) -> Result<Tree, NoMemory>
     let shares = file(alloc, 5, "/copy", content(alloc, 12, 4, slack)?)?;
     let slack = set_of(alloc, Vec::new(alloc))?;
     let apart = file(alloc, 6, "/key/other", content(alloc, 14, 4, slack)?)?;
+    let whole = Volume {
+        number: 1,
+        kind: FsKind::Ufs2,
+        at: 0,
+        len: LEN,
+    };
     Ok(Tree {
         image_len: LEN,
-        volumes: Volumes::from_vec(Vec::new(alloc)),
+        volumes: Volumes::from_vec(vec![in alloc; whole]?),
         unread: set_of(alloc, Vec::new(alloc))?,
         files: Files::from_vec(vec![in alloc; key, shares, apart]?),
         guard: set_of(alloc, guard)?,
