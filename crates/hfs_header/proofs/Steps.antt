@@ -93,7 +93,7 @@ counts_nothing (Err (read.Limit bound number)) before now calm same = same
 
 -- ---- what an answer says of the volume
 
-tells : (image : List ℕ) (at len : ℕ) (result : Result Header ReadFault) → (result ≡ Err read.NoMemory → ⊥) → Answers result (run image (volume_header at len)) → TellsHeader image at len result
+tells : (image : List ℕ) (at len : ℕ) (result : Result Header ReadFault) → (result ≡ Err read.NoMemory → ⊥) → Answers result (result_of image (volume_header at len)) → TellsHeader image at len result
 tells image at len (Ok header) lean answer = (header_law image at len).accepts header answer
 tells image at len (Err read.Device) lean answer = tt
 tells image at len (Err read.NoMemory) lean answer = absurd (lean cc)
@@ -114,7 +114,7 @@ lean at (Err fault) refusals is =
     same_fault : (one other : ReadFault) → (let a : Result Header ReadFault = Err one in let b : Result Header ReadFault = Err other in a ≡ b) → one ≡ other
     same_fault one other same = cc
 
-pub tells_told : (told : Option (List ℕ)) (at len : ℕ) (result : Result Header ReadFault) → IfErr result (IsHeaderRefusal at) → IfSome told (λ image. Answers result (run image (volume_header at len)))
+pub tells_told : (told : Option (List ℕ)) (at len : ℕ) (result : Result Header ReadFault) → IfErr result (IsHeaderRefusal at) → IfSome told (λ image. Answers result (result_of image (volume_header at len)))
     → IfSome told (λ image. TellsHeader image at len result)
 tells_told None at len result refusals answer = tt
 tells_told (Some image) at len result refusals answer = tells image at len result (lean at result refusals) answer
