@@ -44,11 +44,16 @@ const NUMBERS: [(usize, u32); 27] = [
 fn small_image(alloc: Global) -> Result<Vec<u8>, AllocError> {
     let mut image = vec![in alloc; 0u8; 262_144]?;
     for (at, number) in NUMBERS {
-        if at <= 86_016 {
-            image[at..at + 4].copy_from_slice(&number.to_le_bytes());
-        }
+        put(&mut image, at, number);
     }
     Ok(image)
+}
+
+/// Puts the number at a place of the image.
+fn put(image: &mut [u8], at: usize, number: u32) {
+    for (held, byte) in image.iter_mut().skip(at).zip(number.to_le_bytes()) {
+        *held = byte;
+    }
 }
 
 /// The path of a file of the tests.
