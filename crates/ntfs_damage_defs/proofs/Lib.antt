@@ -1,3 +1,5 @@
+pub mod BootDamage
+pub mod Each
 pub mod EntryDamage
 pub mod ListDamage
 pub mod MapDamage

@@ -9,6 +9,7 @@ use Rattle.ntfs_volume_defs.specs.Segments.{Held, stream_of, is_resident}
 use Rattle.ntfs_volume_defs.specs.Streams.{Stream}
 use Rattle.ntfs_volume_defs.specs.Lists.{ListContent, Entry, list_content, entries_of}
 use Rattle.ntfs_volume_defs.specs.declared.boot.Boot.{Boot}
+use Rattle.ntfs_volume_defs.specs.Boot.{boot_at}
 use Rattle.ntfs_volume_defs.specs.Mft.{mft_of}
 use Rattle.ntfs_damage_defs.specs.Damage.{IsBoot, IsFalseAt}
 use Rattle.ntfs_damage_defs.specs.Told.{IsToldBy}
@@ -45,6 +46,10 @@ ContentRefusedLaw = (image : List ℕ) (mft : Mft) (list : Held) (refusal : Refu
 abbrev pub ContentReadLaw : Type 0
 ContentReadLaw = (image : List ℕ) (mft : Mft) (list : Held) (content : ListContent) (sort : Sort) (place : ℕ) → result_of image (list_content mft list) ≡ Ok content → is_resident list ≡ false
     → IsWrongStream mft list [] sort place → ⊥
+
+-- a boot sector is refused for damage only where a rule of it is broken at that place
+abbrev pub BootRefusedLaw : Type 0
+BootRefusedLaw = (image : List ℕ) (at len : ℕ) (refusal : Refusal) → result_of image (boot_at at len) ≡ Err refusal → IsToldBy (IsFalseAt image at len) refusal
 
 -- where the boot sector is sound, $MFT is refused for damage only where a rule of the volume is broken at that place
 abbrev pub MftRefusedLaw : Type 0

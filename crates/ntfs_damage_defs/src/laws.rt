@@ -1,5 +1,5 @@
 //! What is proved of damage: the contract of each of these functions is a law, and its body is empty.
-ghost use Rattle.ntfs_damage_defs.specs.DamageLaws.{SlotRefusedLaw, SlotReadLaw, StreamRefusedLaw, StreamReadLaw, ListRefusedLaw, ListReadLaw, ContentRefusedLaw, ContentReadLaw, MftRefusedLaw};
+ghost use Rattle.ntfs_damage_defs.specs.DamageLaws.{SlotRefusedLaw, SlotReadLaw, StreamRefusedLaw, StreamReadLaw, ListRefusedLaw, ListReadLaw, ContentRefusedLaw, ContentReadLaw, BootRefusedLaw, MftRefusedLaw};
 
 /// A slot that is refused for damage has what is wrong, at the place that is told; one that is read has nothing wrong.
 #[tactic(auto, using(crate::proofs::SlotDamage::slot_refuses, crate::proofs::SlotDamage::slot_is_sound))]
@@ -27,6 +27,12 @@ pub fn lists_are_refused_for_what_is_wrong()
 pub fn contents_of_lists_are_refused_for_what_is_wrong()
     ensures refused { ContentRefusedLaw }
     ensures read { ContentReadLaw }
+{}
+
+/// A boot sector is refused for damage only where a rule of it is broken at that place.
+#[tactic(auto, using(crate::proofs::BootDamage::boot_refuses))]
+pub fn the_boot_sector_is_refused_for_what_is_wrong()
+    ensures { BootRefusedLaw }
 {}
 
 /// Where the boot sector is sound, `$MFT` is refused for damage only where a rule of the volume is broken at that place.
