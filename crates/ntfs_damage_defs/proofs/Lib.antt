@@ -1,9 +1,11 @@
 pub mod BootDamage
 pub mod Each
 pub mod EntryDamage
+pub mod FileDamage
 pub mod ListDamage
 pub mod MapDamage
 pub mod RecordFaults
 pub mod SlotDamage
 pub mod StreamDamage
 pub mod Told
+pub mod VolumeDamage

@@ -25,6 +25,7 @@ use Rattle.ntfs_damage_defs.proofs.Told.{told_weaker}
 use Rattle.ntfs_damage_defs.specs.Wrong.{IsWrongSlot, IsWrongSegment, IsWrongStream, IsWrongList, NoAttribute}
 use Rattle.ntfs_damage_defs.specs.Damage.{IsBoot, HasFirstSlot, IsMftBase, OfMft, AreMftEntries, IsNextEntry, IsMapped, First, Next, IsMftSegment, Own, Listed, known_mft_of, IsFalseAt, WrongSlot, WrongListStream, WrongListEntry, MissingSegment, NoFirstSlot, NoMftBase, NoMapping, NotMapped, NoMftContent, WrongMftSegment, WrongMftStart}
 use Rattle.ntfs_damage_defs.specs.SlotDamage.{HasWholeSectors}
+use Rattle.ntfs_damage_defs.proofs.BootDamage.{boot_is_read}
 use Rattle.ntfs_damage_defs.proofs.SlotDamage.{slot_refuses}
 use Rattle.ntfs_damage_defs.proofs.StreamDamage.{segment_refuses, stream_refuses}
 use Rattle.ntfs_damage_defs.proofs.ListDamage.{value_refuses, list_refuses}
@@ -112,7 +113,10 @@ mapping_is_clustered held maps = by_test (is_resident held) refl
 
 -- ---- what refuses
 
-module _ (image : List ℕ) (at len : ℕ) (boot : Boot) (is_boot : IsBoot image at len boot) (sectors : HasWholeSectors boot) where
+module _ (image : List ℕ) (at len : ℕ) (boot : Boot) (is_boot : IsBoot image at len boot) where
+  sectors : HasWholeSectors boot
+  sectors = (boot_is_read image at len boot is_boot).sectors
+
   abbrev pub Rules : Sort → ℕ → Type 0
   Rules = IsFalseAt image at len
 

@@ -1,9 +1,9 @@
 -- The laws of damage that are proved: of slots, of streams, of attribute lists and their content, and of $MFT.
-use Rattle.std.specs.Prelude.{◌≡◌, ℕ, false, Ok, Err, List, []}
+use Rattle.std.specs.Prelude.{◌≡◌, ℕ, ◌<◌, false, Ok, Err, List, []}
 use Rattle.fault_defs.specs.declared.Sort.{Sort}
 use Rattle.fault_defs.specs.declared.Refusal.{Refusal}
 use Rattle.image_defs.specs.Ask.{result_of}
-use Rattle.ntfs_volume_defs.specs.Slots.{Mft, Slot, slot_of}
+use Rattle.ntfs_volume_defs.specs.Slots.{Mft, Slot, slots, slot_of}
 use Rattle.ntfs_record_defs.specs.Attributes.{Stream as StreamHeader, NonResident}
 use Rattle.ntfs_volume_defs.specs.Segments.{Held, stream_of, is_resident}
 use Rattle.ntfs_volume_defs.specs.Streams.{Stream}
@@ -11,6 +11,8 @@ use Rattle.ntfs_volume_defs.specs.Lists.{ListContent, Entry, list_content, entri
 use Rattle.ntfs_volume_defs.specs.declared.boot.Boot.{Boot}
 use Rattle.ntfs_volume_defs.specs.Boot.{boot_at}
 use Rattle.ntfs_volume_defs.specs.Mft.{mft_of}
+use Rattle.ntfs_volume_defs.specs.Files.{file_of}
+use Rattle.ntfs_volume_defs.specs.Volume.{volume_at}
 use Rattle.ntfs_damage_defs.specs.Damage.{IsBoot, IsFalseAt}
 use Rattle.ntfs_damage_defs.specs.Told.{IsToldBy}
 use Rattle.ntfs_damage_defs.specs.Wrong.{IsWrongSlot, IsWrongStream, IsWrongList}
@@ -53,5 +55,14 @@ BootRefusedLaw = (image : List ℕ) (at len : ℕ) (refusal : Refusal) → resul
 
 -- where the boot sector is sound, $MFT is refused for damage only where a rule of the volume is broken at that place
 abbrev pub MftRefusedLaw : Type 0
-MftRefusedLaw = (image : List ℕ) (at len : ℕ) (boot : Boot) → IsBoot image at len boot → HasWholeSectors boot → (refusal : Refusal) → result_of image (mft_of boot) ≡ Err refusal
+MftRefusedLaw = (image : List ℕ) (at len : ℕ) (boot : Boot) → IsBoot image at len boot → (refusal : Refusal) → result_of image (mft_of boot) ≡ Err refusal
     → IsToldBy (IsFalseAt image at len) refusal
+
+-- where the boot sector and $MFT are sound, a file of a slot is refused for damage only where a rule of the volume is broken at that place
+abbrev pub FileRefusedLaw : Type 0
+FileRefusedLaw = (image : List ℕ) (at len : ℕ) (boot : Boot) (mft : Mft) (number : ℕ) → IsBoot image at len boot → result_of image (mft_of boot) ≡ Ok mft → number < slots mft
+    → (refusal : Refusal) → result_of image (file_of mft number) ≡ Err refusal → IsToldBy (IsFalseAt image at len) refusal
+
+-- a volume is refused for damage only where a rule of it is broken at that place
+abbrev pub VolumeRefusedLaw : Type 0
+VolumeRefusedLaw = (image : List ℕ) (at len : ℕ) (refusal : Refusal) → result_of image (volume_at at len) ≡ Err refusal → IsToldBy (IsFalseAt image at len) refusal

@@ -1,5 +1,5 @@
 //! What is proved of damage: the contract of each of these functions is a law, and its body is empty.
-ghost use Rattle.ntfs_damage_defs.specs.DamageLaws.{SlotRefusedLaw, SlotReadLaw, StreamRefusedLaw, StreamReadLaw, ListRefusedLaw, ListReadLaw, ContentRefusedLaw, ContentReadLaw, BootRefusedLaw, MftRefusedLaw};
+ghost use Rattle.ntfs_damage_defs.specs.DamageLaws.{SlotRefusedLaw, SlotReadLaw, StreamRefusedLaw, StreamReadLaw, ListRefusedLaw, ListReadLaw, ContentRefusedLaw, ContentReadLaw, BootRefusedLaw, MftRefusedLaw, FileRefusedLaw, VolumeRefusedLaw};
 
 /// A slot that is refused for damage has what is wrong, at the place that is told; one that is read has nothing wrong.
 #[tactic(auto, using(crate::proofs::SlotDamage::slot_refuses, crate::proofs::SlotDamage::slot_is_sound))]
@@ -39,4 +39,16 @@ pub fn the_boot_sector_is_refused_for_what_is_wrong()
 #[tactic(auto, using(crate::proofs::MapDamage::mft_refuses))]
 pub fn the_mft_is_refused_for_what_is_wrong()
     ensures { MftRefusedLaw }
+{}
+
+/// The same of the file of a slot.
+#[tactic(auto, using(crate::proofs::FileDamage::file_refuses))]
+pub fn files_are_refused_for_what_is_wrong()
+    ensures { FileRefusedLaw }
+{}
+
+/// A volume is refused for damage only where a rule of it is broken at that place.
+#[tactic(auto, using(crate::proofs::VolumeDamage::volume_refuses))]
+pub fn a_volume_is_refused_for_what_is_wrong()
+    ensures { VolumeRefusedLaw }
 {}
