@@ -1,9 +1,9 @@
 -- Laws of programs for each item of a list: a fault is that of an item, and a value has one for each.
-use Rattle.std.specs.Prelude.{◌≡◌, ℕ, zero, suc, ◌+◌, ◌<◌, ◌≤◌, Ok, Err, Result, List, [], ◌∷◌, ◌++◌, Contains, refl}
-use Rattle.std.specs.List.{All}
-use Rattle.std.proofs.Common.{arith, subst, ⊎_elim}
-use Rattle.std.proofs.lemmas.Bool.{cases_lt}
-use Rattle.std.proofs.lemmas.List.Elements.{All-cons, All-nil, Contains-append_right}
+use Rattle.std.specs.Prelude.{◌≡◌, ℕ, zero, suc, ◌+◌, ◌<◌, ◌≤◌, Bool, true, false, cond, Ok, Err, Result, List, [], ◌∷◌, ◌++◌, Contains, refl}
+use Rattle.std.specs.List.{All, filter}
+use Rattle.std.proofs.Common.{arith, sym, ◌∙◌, subst, ⊎_elim}
+use Rattle.std.proofs.lemmas.Bool.{cases_lt, false≢true}
+use Rattle.std.proofs.lemmas.List.Elements.{All-cons, All-nil, All-head, All-tail, Contains-append_right}
 use Rattle.image_defs.specs.Ask.{Ask, Done, result_of, each, ◌>>=◌}
 use Rattle.image_defs.proofs.Looks.{bind_gives, bind_refuses}
 use Rattle.ntfs_record_defs.specs.Stored.{count_from}
@@ -47,6 +47,16 @@ each_gives_all image ask (x ∷ xs) ys gives =
     let first = bind_gives image (ask x) (λ y. each ask xs >>= (λ ys. Done (y ∷ ys))) ys gives in
     let rest = bind_gives image (each ask xs) (λ ys. Done (first.0 ∷ ys)) ys first.2 in
     All-cons (Gives image ask) x xs (record { value = first.0; gives = first.1 }) (each_gives_all image ask xs rest.0 rest.1)
+
+-- ---- what passes a test
+
+pub filter_all : {X : Type 0} (test : X → Bool) (P : X → Type 0) (xs : List X) → All P (filter test xs) → All (λ x. test x ≡ true → P x) xs
+filter_all test P [] all = All-nil (λ x. test x ≡ true → P x)
+filter_all test P (x ∷ xs) all = by_test (test x) refl all (λ rest. filter_all test P xs rest)
+  where
+    by_test : (passes : Bool) → test x ≡ passes → All P (cond passes (x ∷ filter test xs) (filter test xs)) → (All P (filter test xs) → All (λ x. test x ≡ true → P x) xs) → All (λ x. test x ≡ true → P x) (x ∷ xs)
+    by_test true is all later = All-cons (λ x. test x ≡ true → P x) x xs (λ passes. All-head P x (filter test xs) all) (later (All-tail P x (filter test xs) all))
+    by_test false is all later = All-cons (λ x. test x ≡ true → P x) x xs (λ passes. absurd (false≢true (sym is ∙ passes))) (later all)
 
 -- ---- numbers in a row
 

@@ -92,7 +92,7 @@ module _ (image : List ℕ) (mft : Mft) (number : ℕ) (base : FileRecord) (entr
       (bind_refuses image (named_record mft number base entry) (λ attributes. given (named_in entry attributes)) refusal refuses)
 
   -- what an entry that is found goes through, where it names another slot
-  other_slot : (attributes : List Held) → (entry.number ≡ number → ⊥) → result_of image (named_record mft number base entry) ≡ Ok attributes
+  pub other_slot : (attributes : List Held) → (entry.number ≡ number → ⊥) → result_of image (named_record mft number base entry) ≡ Ok attributes
       → (entry.number < slots mft) × (slot : Slot) × (found : FileRecord) × (result_of image (slot_of mft entry.number) ≡ Ok slot) × (extension_of (reference_of number base.header) entry.place slot ≡ Ok found)
   other_slot attributes differs gives =
       let other = sym (ap (λ own. result_of image (record_named mft number base entry own)) (equal_not entry.number number differs)) ∙ gives in

@@ -54,7 +54,7 @@ unfolding segments_behind
 behind_one image boot base known entry entries held mft next is =
     result_bind_ok image (next_segment boot base known entry) _ held next ∙ result_bind_ok image (given (with_segment boot known held)) _ mft (result_given image (with_segment boot known held) ∙ is)
 
-behind_none : (image : List ℕ) (boot : Boot) (base : FileRecord) (known : Option Mft) → result_of image (segments_behind boot base known []) ≡ Ok known
+pub behind_none : (image : List ℕ) (boot : Boot) (base : FileRecord) (known : Option Mft) → result_of image (segments_behind boot base known []) ≡ Ok known
 unfolding segments_behind
 behind_none image boot base known = refl
 
@@ -110,6 +110,18 @@ mapping_is_clustered held maps = by_test (is_resident held) refl
     by_test : (test : Bool) → is_resident held ≡ test → is_resident held ≡ false
     by_test true is = absurd (false≢true (sym maps ∙ or_left (is_resident held) (is_unreadable held) is))
     by_test false is = is
+
+-- the base record in slot 0
+pub first_base_is : (boot : Boot) (slot : Slot) (base : FileRecord) → first_base boot slot ≡ Ok base → (slot ≡ Used base) × (base.header.base ≡ 0)
+first_base_is boot Empty base gives = absurd cc
+first_base_is boot Unused base gives = absurd cc
+first_base_is boot (Used found) base gives = by_test (found.header.base == 0) refl gives
+  where
+    by_test : (test : Bool) → (found.header.base == 0) ≡ test → if◌then◌else◌ {A = Result FileRecord Refusal} test (Ok found) (Err (no_map boot)) ≡ Ok base → (Used found ≡ Used base) × (base.header.base ≡ 0)
+    by_test false is gives = absurd cc
+    by_test true is gives =
+        let own : found ≡ base = cc in
+        (ap Used own, sym (ap (λ (found : FileRecord). found.header.base) own) ∙ eqb-true found.header.base 0 is)
 
 -- ---- what refuses
 
@@ -273,7 +285,7 @@ module _ (image : List ℕ) (at len : ℕ) (boot : Boot) (is_boot : IsBoot image
       (λ slot. ⊎_elim
       (λ no_base. base_told slot.0 refusal fits slot.1 no_base)
       (λ base.
-      let own = first_base_is slot.0 base.0 base.1 in
+      let own = first_base_is boot slot.0 base.0 base.1 in
       let base_is : IsMftBase image boot base.0 = record { inside = fits; slot_is = slot.1 ∙ ap Ok own.0; is_base = own.1 } in
       ⊎_elim
       (λ segments. all_told base.0 (list_of (attributes_in 0 base.0)) refusal base_is refl segments)
@@ -282,14 +294,3 @@ module _ (image : List ℕ) (at len : ℕ) (boot : Boot) (is_boot : IsBoot image
       (given_refuses image (first_base boot slot.0) (mft_with boot) refusal slot.2))
       (bind_refuses image (slot_of alone 0) (mft_behind boot) refusal inside.1))
       (check_refuses image (nat_le (first_slot_at boot + boot.record_size) (boot.at + boot.len)) (no_map boot) (λ x. slot_of alone 0 >>= mft_behind boot) refusal refuses)
-    where
-      first_base_is : (slot : Slot) (base : FileRecord) → first_base boot slot ≡ Ok base → (slot ≡ Used base) × (base.header.base ≡ 0)
-      first_base_is Empty base gives = absurd cc
-      first_base_is Unused base gives = absurd cc
-      first_base_is (Used found) base gives = by_test (found.header.base == 0) refl gives
-        where
-          by_test : (test : Bool) → (found.header.base == 0) ≡ test → if◌then◌else◌ {A = Result FileRecord Refusal} test (Ok found) (Err (no_map boot)) ≡ Ok base → (Used found ≡ Used base) × (base.header.base ≡ 0)
-          by_test false is gives = absurd cc
-          by_test true is gives =
-              let own : found ≡ base = cc in
-              (ap Used own, sym (ap (λ (found : FileRecord). found.header.base) own) ∙ eqb-true found.header.base 0 is)
