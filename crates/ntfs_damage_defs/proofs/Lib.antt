@@ -8,6 +8,7 @@ pub mod RecordFaults
 pub mod SlotDamage
 pub mod SoundFiles
 pub mod SoundMap
+pub mod SoundVolume
 pub mod StreamDamage
 pub mod Told
 pub mod VolumeDamage

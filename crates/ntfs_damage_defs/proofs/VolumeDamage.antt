@@ -23,8 +23,6 @@ use Rattle.ntfs_damage_defs.proofs.BootDamage.{boot_refuses}
 use Rattle.ntfs_damage_defs.proofs.MapDamage.{mft_refuses}
 use Rattle.ntfs_damage_defs.proofs.FileDamage.{file_refuses}
 use Rattle.ntfs_damage_defs.proofs.Each.{each_refuses, count_below}
-use Rattle.ntfs_damage_defs.proofs.SoundMap.{IsReadMft}
-use Rattle.ntfs_damage_defs.proofs.SoundFiles.{HasStream}
 
 limits_told : (P : Sort → ℕ → Type 0) (image : List ℕ) (volume : FoundVolume) (refusal : Refusal) → result_of image (within_limits volume) ≡ Err refusal → IsToldBy P refusal
 unfolding within_limits

@@ -1,4 +1,4 @@
--- The laws of damage that are proved: of slots, of streams, of attribute lists and their content, and of $MFT.
+-- The laws of damage: of slots, of streams, of attribute lists and their content, and of a volume with its boot sector, $MFT and files.
 use Rattle.std.specs.Prelude.{◌≡◌, ℕ, ◌<◌, false, Ok, Err, List, []}
 use Rattle.fault_defs.specs.declared.Sort.{Sort}
 use Rattle.fault_defs.specs.declared.Refusal.{Refusal}
@@ -12,7 +12,7 @@ use Rattle.ntfs_volume_defs.specs.declared.boot.Boot.{Boot}
 use Rattle.ntfs_volume_defs.specs.Boot.{boot_at}
 use Rattle.ntfs_volume_defs.specs.Mft.{mft_of}
 use Rattle.ntfs_volume_defs.specs.Files.{file_of}
-use Rattle.ntfs_volume_defs.specs.Volume.{volume_at}
+use Rattle.ntfs_volume_defs.specs.Volume.{FoundVolume, volume_at}
 use Rattle.ntfs_damage_defs.specs.Damage.{IsBoot, IsFalseAt}
 use Rattle.ntfs_damage_defs.specs.Told.{IsToldBy}
 use Rattle.ntfs_damage_defs.specs.Wrong.{IsWrongSlot, IsWrongStream, IsWrongList}
@@ -66,3 +66,7 @@ FileRefusedLaw = (image : List ℕ) (at len : ℕ) (boot : Boot) (mft : Mft) (nu
 -- a volume is refused for damage only where a rule of it is broken at that place
 abbrev pub VolumeRefusedLaw : Type 0
 VolumeRefusedLaw = (image : List ℕ) (at len : ℕ) (refusal : Refusal) → result_of image (volume_at at len) ≡ Err refusal → IsToldBy (IsFalseAt image at len) refusal
+
+-- a volume that is read has no rule that is broken
+abbrev pub VolumeReadLaw : Type 0
+VolumeReadLaw = (image : List ℕ) (at len : ℕ) (volume : FoundVolume) (sort : Sort) (place : ℕ) → result_of image (volume_at at len) ≡ Ok volume → IsFalseAt image at len sort place → ⊥

@@ -1,5 +1,5 @@
 //! What is proved of damage: the contract of each of these functions is a law, and its body is empty.
-ghost use Rattle.ntfs_damage_defs.specs.DamageLaws.{SlotRefusedLaw, SlotReadLaw, StreamRefusedLaw, StreamReadLaw, ListRefusedLaw, ListReadLaw, ContentRefusedLaw, ContentReadLaw, BootRefusedLaw, MftRefusedLaw, FileRefusedLaw, VolumeRefusedLaw};
+ghost use Rattle.ntfs_damage_defs.specs.DamageLaws.{SlotRefusedLaw, SlotReadLaw, StreamRefusedLaw, StreamReadLaw, ListRefusedLaw, ListReadLaw, ContentRefusedLaw, ContentReadLaw, BootRefusedLaw, MftRefusedLaw, FileRefusedLaw, VolumeRefusedLaw, VolumeReadLaw};
 
 /// A slot that is refused for damage has what is wrong, at the place that is told; one that is read has nothing wrong.
 #[tactic(auto, using(crate::proofs::SlotDamage::slot_refuses, crate::proofs::SlotDamage::slot_is_sound))]
@@ -47,8 +47,9 @@ pub fn files_are_refused_for_what_is_wrong()
     ensures { FileRefusedLaw }
 {}
 
-/// A volume is refused for damage only where a rule of it is broken at that place.
-#[tactic(auto, using(crate::proofs::VolumeDamage::volume_refuses))]
+/// A volume is refused for damage only where a rule of it is broken at that place; one that is read has no rule that is broken.
+#[tactic(auto, using(crate::proofs::VolumeDamage::volume_refuses, crate::proofs::SoundVolume::volume_is_sound))]
 pub fn a_volume_is_refused_for_what_is_wrong()
-    ensures { VolumeRefusedLaw }
+    ensures refused { VolumeRefusedLaw }
+    ensures read { VolumeReadLaw }
 {}

@@ -4,8 +4,9 @@
 //! lists and segments of streams, attribute lists and their entries, `$MFT` through itself, and names. It knows nothing of
 //! the order in which a reader meets them.
 //!
-//! The promised laws of `laws` are of slots, streams, attribute lists and their content: a refusal has its broken rule at its
-//! place, and what is read has none; and that a refusal of `$MFT` has one. Those of files and of a whole volume are to come.
+//! The promised laws of `laws` are of slots, streams, attribute lists and their content, and of a whole volume: a refusal for
+//! damage has its broken rule at its place, and what is read has none. That a refusal has its rule stands for the boot sector,
+//! `$MFT` and each file by itself too.
 #![tactic(auto)]
 
 pub mod laws;
