@@ -1,5 +1,5 @@
 -- Laws of programs for each item of a list: a fault is that of an item, and a value has one for each.
-use Rattle.std.specs.Prelude.{◌≡◌, ℕ, zero, suc, ◌+◌, ◌<◌, ◌≤◌, Bool, true, false, cond, Ok, Err, Result, List, [], ◌∷◌, ◌++◌, Contains, refl}
+use Rattle.std.specs.Prelude.{◌≡◌, ℕ, zero, suc, ◌+◌, ◌<◌, ◌≤◌, Bool, true, false, cond, Ok, Err, List, [], ◌∷◌, Contains, refl}
 use Rattle.std.specs.List.{All, filter}
 use Rattle.std.proofs.Common.{arith, sym, ◌∙◌, subst, ⊎_elim}
 use Rattle.std.proofs.lemmas.Bool.{cases_lt, false≢true}

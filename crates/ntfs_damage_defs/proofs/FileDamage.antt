@@ -1,12 +1,11 @@
 -- A file that isn't found breaks a rule: in its slot, in its list and the entries of that, in its names or its parts.
-use Rattle.std.specs.Prelude.{◌≡◌, ℕ, suc, ◌+◌, ◌^◌, ◌<◌, ◌⊎◌, ◌==◌, not, Bool, true, false, nat_lt, if◌then◌else◌, Option, Some, None, Result, Ok, Err, List, [], ◌∷◌, Contains, refl}
+use Rattle.std.specs.Prelude.{◌≡◌, ℕ, ◌^◌, ◌<◌, ◌==◌, not, Bool, true, false, nat_lt, if◌then◌else◌, Option, Some, None, Result, Ok, Err, List, [], ◌∷◌, Contains, refl}
 use Rattle.std.specs.List.{filter, list_any}
-use Rattle.std.proofs.Common.{arith, ap, sym, ◌∙◌, subst, ⊎_elim, inl, inr}
+use Rattle.std.proofs.Common.{ap, sym, ◌∙◌, subst, ⊎_elim, inl, inr}
 use Rattle.std.proofs.lemmas.Bool.{eqb-true, ltb-true}
 use Rattle.std.proofs.lemmas.List.Elements.{All-contains, All-contains_itself, All-filter, filter_passes}
 use Rattle.image_defs.specs.Ask.{Done, result_of, given, each, ◌>>=◌}
 use Rattle.image_defs.specs.Runs.{with_value, in_front_of}
-use Rattle.image_defs.proofs.Runs.{result_given}
 use Rattle.image_defs.proofs.Looks.{bind_refuses, given_refuses}
 use Rattle.fault_defs.specs.declared.Sort.{Sort}
 use Rattle.fault_defs.specs.declared.Sort.TheVariants.{SegmentGap, Sizes, BadName}
@@ -23,7 +22,7 @@ use Rattle.ntfs_volume_defs.specs.Lists.{Entry, ListContent, attributes_in, list
 use Rattle.ntfs_volume_defs.specs.Mft.{mft_of}
 use Rattle.ntfs_volume_defs.specs.Names.{FoundName, is_sound_name, is_dos, found_name, names_of, file_names}
 use Rattle.ntfs_volume_defs.specs.Parts.{is_part, leaders, resident_part, readable_part, stream_part, part_by, part_of, parts_led_by, parts_of}
-use Rattle.ntfs_volume_defs.specs.Files.{Assembled, FoundFile, with_entries, with_list, assembled_by, assembled, file_with, with_assembled, file_by, file_in, file_of}
+use Rattle.ntfs_volume_defs.specs.Files.{Assembled, with_entries, with_list, assembled_by, assembled, file_with, with_assembled, file_by, file_in, file_of}
 use Rattle.ntfs_volume_laws.proofs.VolumeLaws.{mft_boot}
 use Rattle.ntfs_damage_defs.specs.Told.{IsToldBy}
 use Rattle.ntfs_damage_defs.proofs.Told.{told_weaker}

@@ -4,7 +4,7 @@ use Rattle.std.specs.Str.{bytes_eq}
 use Rattle.std.proofs.Common.{arith, lit≤, sym, ◌∙◌, subst, ⊎_elim, inl, inr}
 use Rattle.std.proofs.lemmas.Bool.{and_parts, leb-true, cases_lt}
 use Rattle.bytes_defs.specs.Bytes.{part}
-use Rattle.image_defs.specs.Ask.{Ask, Done, result_of, look, check, each, ◌>>=◌, ◌>>◌}
+use Rattle.image_defs.specs.Ask.{Ask, Done, result_of, look, check, each, ◌>>=◌}
 use Rattle.image_defs.proofs.Looks.{bind_refuses, check_refuses}
 use Rattle.image_defs.specs.Via.{seen}
 use Rattle.image_defs.proofs.ViaLaws.{result_via}

@@ -1,7 +1,7 @@
 -- Where a file is found, it breaks no rule: in its list and the entries of that, in its names or its parts.
-use Rattle.std.specs.Prelude.{◌≡◌, ℕ, ◌^◌, ◌<◌, ◌≤◌, ◌⊎◌, ◌==◌, not, Bool, true, false, nat_lt, if◌then◌else◌, Option, Some, None, Result, Ok, Err, List, [], ◌∷◌, Contains, refl}
+use Rattle.std.specs.Prelude.{◌≡◌, ℕ, ◌^◌, ◌≤◌, ◌⊎◌, ◌==◌, not, Bool, true, false, nat_lt, if◌then◌else◌, Some, Result, Ok, Err, List, [], ◌∷◌, Contains, refl}
 use Rattle.std.specs.List.{filter, list_any, All}
-use Rattle.std.proofs.Common.{arith, ap, sym, ◌∙◌, subst, ⊎_elim}
+use Rattle.std.proofs.Common.{ap, sym, ◌∙◌, subst, ⊎_elim}
 use Rattle.std.proofs.lemmas.Bool.{eq-eqb, ltb-false, false≢true}
 use Rattle.std.proofs.lemmas.List.Elements.{All-cons, All-nil, All-contains}
 use Rattle.image_defs.specs.Ask.{Done, result_of, given, each, ◌>>=◌}
@@ -16,12 +16,12 @@ use Rattle.ntfs_record_defs.specs.Attributes.{Form, Resident, NonResident, is_re
 use Rattle.ntfs_record_defs.specs.Record.{FileRecord}
 use Rattle.ntfs_volume_defs.specs.declared.boot.Boot.{Boot}
 use Rattle.ntfs_volume_defs.specs.Streams.{Stream, mapped}
-use Rattle.ntfs_volume_defs.specs.Slots.{Mft, Slot, Used, slot_of}
+use Rattle.ntfs_volume_defs.specs.Slots.{Mft, Used, slot_of}
 use Rattle.ntfs_volume_defs.specs.Segments.{Held, kind_of, name_of, is_unreadable, attribute_place, segments_of, stream_of}
 use Rattle.ntfs_volume_defs.specs.Lists.{Entry, ListContent, attributes_in, list_of, list_content, entries_of, named_attribute}
 use Rattle.ntfs_volume_defs.specs.Names.{FoundName, is_sound_name, is_dos, found_name, names_of, file_names}
 use Rattle.ntfs_volume_defs.specs.Parts.{is_part, leaders, stream_part, part_by, part_of, parts_led_by, parts_of}
-use Rattle.ntfs_volume_defs.specs.Files.{Assembled, FoundFile, with_entries, with_list, assembled_by, assembled, file_with, with_assembled, file_by, file_in, file_of}
+use Rattle.ntfs_volume_defs.specs.Files.{Assembled, with_entries, with_list, assembled_by, assembled, file_with, with_assembled, file_by, file_in, file_of}
 use Rattle.ntfs_damage_defs.specs.Wrong.{IsMissing}
 use Rattle.ntfs_damage_defs.specs.Damage.{IsFileBase, AreAttributesOf, ArePartOf}
 use Rattle.ntfs_damage_defs.proofs.ListDamage.{value_gives}

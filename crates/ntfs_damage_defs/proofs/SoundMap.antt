@@ -1,10 +1,10 @@
 -- Where $MFT is found, what it was found by breaks no rule.
-use Rattle.std.specs.Prelude.{◌≡◌, ℕ, ◌+◌, ◌*◌, ◌<◌, ◌≤◌, ◌⊎◌, ◌==◌, Bool, true, false, nat_le, if◌then◌else◌, Option, Some, None, Result, Ok, Err, List, [], ◌∷◌, ◌++◌, find, refl}
+use Rattle.std.specs.Prelude.{◌≡◌, ℕ, ◌+◌, ◌*◌, ◌⊎◌, Bool, true, false, nat_le, if◌then◌else◌, Option, Some, None, Result, Ok, Err, List, [], ◌∷◌, ◌++◌, refl}
 use Rattle.std.specs.List.{filter}
 use Rattle.std.specs.Option.{ok_or}
-use Rattle.std.proofs.Common.{arith, ap, sym, ◌∙◌, subst, ⊎_elim}
+use Rattle.std.proofs.Common.{ap, sym, ◌∙◌, subst, ⊎_elim}
 use Rattle.std.proofs.lemmas.Bool.{eq-eqb, leb-true, cases_eq, false≢true}
-use Rattle.image_defs.specs.Ask.{Done, result_of, given, check, ◌>>=◌, ◌>>◌}
+use Rattle.image_defs.specs.Ask.{Done, result_of, given}
 use Rattle.image_defs.proofs.Runs.{result_given}
 use Rattle.image_defs.proofs.Looks.{bind_gives, check_gives, given_gives}
 use Rattle.fault_defs.specs.declared.Sort.{Sort}
@@ -15,13 +15,13 @@ use Rattle.fault_defs.specs.declared.Refusal.TheVariants.{Damaged, Limit}
 use Rattle.ntfs_record_defs.specs.Record.{FileRecord}
 use Rattle.ntfs_volume_defs.specs.declared.boot.Boot.{Boot}
 use Rattle.ntfs_volume_defs.specs.Streams.{mapped}
-use Rattle.ntfs_volume_defs.specs.Slots.{Mft, Slot, Used, slots, first_slot_at, slot_of}
+use Rattle.ntfs_volume_defs.specs.Slots.{Mft, slots, first_slot_at, slot_of}
 use Rattle.ntfs_volume_defs.specs.Segments.{Held, clusters_in, segment_runs, segments_of, stream_of}
-use Rattle.ntfs_volume_defs.specs.Lists.{Entry, ListContent, attributes_in, list_of, list_content, entries_of, is_named, named_in, record_named, named_record, named_attribute}
+use Rattle.ntfs_volume_defs.specs.Lists.{Entry, ListContent, attributes_in, list_of, list_content, entries_of, named_in, record_named, named_record, named_attribute}
 use Rattle.ntfs_volume_defs.specs.Mft.{no_map, first_slot_alone, with_content, with_runs, is_no_map, with_segment, and_then_segments, with_segments, first_base, is_for_content, segment_in, next_segment, segments_behind, mft_entries, all_segments, known_mft, mft_with, mft_behind, mft_of}
 use Rattle.ntfs_volume_laws.proofs.MapLaws.{entry_gives}
 use Rattle.ntfs_damage_defs.specs.Wrong.{IsWrongSlot, IsWrongSegment, IsWrongStream, IsMissing, NoSlot, NotOfFile, NoAttribute}
-use Rattle.ntfs_damage_defs.specs.Damage.{HasFirstSlot, IsMftBase, AreMftEntries, IsNextEntry, IsMapped, IsMftSegment, Own, Listed, known_mft_of}
+use Rattle.ntfs_damage_defs.specs.Damage.{IsMftBase, AreMftEntries, IsNextEntry, IsMapped, IsMftSegment, Own, Listed, known_mft_of}
 use Rattle.ntfs_damage_defs.proofs.SlotDamage.{slot_is_sound}
 use Rattle.ntfs_damage_defs.proofs.StreamDamage.{segment_is_sound, stream_is_sound}
 use Rattle.ntfs_damage_defs.proofs.ListDamage.{value_gives}

@@ -1,10 +1,10 @@
 -- A volume that is read breaks no rule.
-use Rattle.std.specs.Prelude.{◌≡◌, ℕ, ◌<◌, ◌≤◌, false, Some, Ok, List, []}
+use Rattle.std.specs.Prelude.{◌≡◌, ℕ, ◌<◌, false, Some, Ok, List, []}
 use Rattle.std.proofs.Common.{arith, ap, sym, ◌∙◌, subst}
 use Rattle.std.proofs.lemmas.Bool.{ltb-true}
 use Rattle.std.proofs.lemmas.List.Elements.{All-contains}
 use Rattle.bytes_defs.specs.Bytes.{part}
-use Rattle.image_defs.specs.Ask.{result_of, ◌>>=◌}
+use Rattle.image_defs.specs.Ask.{result_of}
 use Rattle.image_defs.proofs.Looks.{bind_gives}
 use Rattle.fault_defs.specs.declared.Sort.{Sort}
 use Rattle.ntfs_record_defs.specs.Record.{FileRecord}

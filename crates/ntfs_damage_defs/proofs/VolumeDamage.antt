@@ -1,9 +1,8 @@
 -- A volume that isn't read breaks a rule.
 use Rattle.std.specs.Prelude.{◌≡◌, ℕ, ◌<◌, nat_le, Ok, Err, List, length, sum_by}
-use Rattle.std.specs.List.{All}
 use Rattle.std.proofs.Common.{arith, subst, ⊎_elim}
 use Rattle.std.proofs.lemmas.List.Elements.{All-contains}
-use Rattle.image_defs.specs.Ask.{Done, result_of, each, ◌>>=◌}
+use Rattle.image_defs.specs.Ask.{Done, result_of, each}
 use Rattle.image_defs.proofs.Looks.{bind_refuses, check_refuses}
 use Rattle.fault_defs.specs.declared.Bound.TheVariants.{Names, PathBytes, Path, Runs}
 use Rattle.fault_defs.specs.declared.Sort.{Sort}

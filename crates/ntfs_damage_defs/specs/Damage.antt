@@ -1,5 +1,5 @@
 -- When a volume is damaged: each rule of what may be wrong, of the tables that are reached through sound ones.
-use Rattle.std.specs.Prelude.{◌≡◌, ℕ, ◌+◌, ◌*◌, ◌^◌, ◌<◌, ◌≤◌, ◌⊎◌, true, false, Option, Some, None, Ok, Err, List, [], ◌∷◌, ◌++◌, Contains}
+use Rattle.std.specs.Prelude.{◌≡◌, ℕ, ◌+◌, ◌*◌, ◌^◌, ◌<◌, ◌≤◌, ◌⊎◌, true, false, Option, Some, None, Ok, List, [], ◌∷◌, ◌++◌, Contains}
 use Rattle.std.specs.List.{filter, list_any}
 use Rattle.bytes_defs.specs.Bytes.{part}
 use Rattle.image_defs.specs.Ask.{result_of}
@@ -9,7 +9,7 @@ use Rattle.ntfs_record_defs.specs.Record.{FileRecord}
 use Rattle.ntfs_volume_defs.specs.declared.boot.Boot.{Boot}
 use Rattle.ntfs_volume_defs.specs.Boot.{is_boot_sector, total_sectors, sector_size, first_mft_cluster, clusters_of, boot_at}
 use Rattle.ntfs_volume_defs.specs.Streams.{Stream, mapped}
-use Rattle.ntfs_volume_defs.specs.Slots.{Mft, Slot, Empty, Unused, Used, slots, first_slot_at, slot_of}
+use Rattle.ntfs_volume_defs.specs.Slots.{Mft, Slot, Used, slots, first_slot_at, slot_of}
 use Rattle.ntfs_volume_defs.specs.Segments.{Held, kind_of, name_of, is_resident, is_unreadable, attribute_place, clusters_in, segments_of, stream_of}
 use Rattle.ntfs_volume_defs.specs.Lists.{Entry, ListContent, attributes_in, list_of, list_content, entries_of}
 use Rattle.ntfs_volume_defs.specs.Mft.{first_slot_alone, is_no_map, is_for_content, with_segments, next_segment, segments_behind, mft_of}

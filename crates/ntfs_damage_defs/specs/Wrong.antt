@@ -1,5 +1,5 @@
 -- What may be wrong with a slot, a segment, a stream, a list and its entries: each rule by itself, in no order.
-use Rattle.std.specs.Prelude.{◌≡◌, ℕ, ◌+◌, ◌*◌, ◌%◌, ◌^◌, ◌<◌, ◌≤◌, ◌⊎◌, ◌==◌, true, false, Option, Some, None, Ok, Err, List, [], ◌∷◌, ◌++◌, Contains, length, find}
+use Rattle.std.specs.Prelude.{◌≡◌, ℕ, ◌+◌, ◌*◌, ◌%◌, ◌^◌, ◌<◌, ◌≤◌, ◌⊎◌, true, false, Some, None, Ok, Err, List, [], ◌∷◌, ◌++◌, length, find}
 use Rattle.image_defs.specs.Ask.{result_of}
 use Rattle.image_defs.specs.Via.{seen}
 use Rattle.fault_defs.specs.declared.Sort.{Sort}
@@ -8,11 +8,11 @@ use Rattle.ntfs_defs.specs.declared.runs.Run.{Run}
 use Rattle.ntfs_defs.specs.declared.fault.RunFault.{RunFault}
 use Rattle.ntfs_defs.specs.DecodedRuns.{decoded_runs}
 use Rattle.ntfs_record_defs.specs.declared.fault.RecordFault.TheVariants.{BadFixup, BadField}
-use Rattle.ntfs_record_defs.specs.Attributes.{Stream as StreamHeader, Form, Resident, NonResident}
+use Rattle.ntfs_record_defs.specs.Attributes.{Stream as StreamHeader, Resident, NonResident}
 use Rattle.ntfs_record_defs.specs.Stored.{stored_place}
 use Rattle.ntfs_record_defs.specs.Record.{FileRecord, header_of, is_file, record_of}
 use Rattle.range_defs.specs.declared.Range.{Range}
-use Rattle.ntfs_volume_defs.specs.Slots.{Mft, Slot, Used, slots, slot_place, slot_of, is_empty, is_in_use}
+use Rattle.ntfs_volume_defs.specs.Slots.{Mft, Slot, slots, slot_place, slot_of, is_empty, is_in_use}
 use Rattle.ntfs_volume_defs.specs.Segments.{Held, clusters_in, damaged_at, place_in, attribute_place, segments_runs}
 use Rattle.ntfs_volume_defs.specs.Lists.{Entry, ListContent, entry_length, is_entry, entry_place, is_named, extension_of, named_record, reference_of}
 
