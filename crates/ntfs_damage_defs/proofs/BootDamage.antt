@@ -16,7 +16,7 @@ use Rattle.ntfs_volume_defs.specs.Boot.{is_boot_sector, is_one_of, is_total, sec
 use Rattle.ntfs_damage_defs.specs.Told.{IsToldBy}
 use Rattle.ntfs_damage_defs.specs.Damage.{IsBoot, IsFalseAt, NoSectors, NoFirstCluster}
 use Rattle.ntfs_damage_defs.specs.SlotDamage.{HasWholeSectors}
-use Rattle.ntfs_damage_defs.proofs.EntryDamage.{not_given}
+use Rattle.ntfs_damage_defs.proofs.Told.{not_given}
 
 -- ---- sizes that are read
 

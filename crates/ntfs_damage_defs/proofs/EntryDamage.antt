@@ -3,7 +3,7 @@
 use Rattle.std.specs.Prelude.{◌≡◌, ℕ, ◌<◌, ◌&&◌, ◌==◌, Bool, true, false, nat_le, nat_lt, if◌then◌else◌, Option, Some, None, Result, Ok, Err, List, [], find, refl}
 use Rattle.std.specs.Option.{ok_or}
 use Rattle.std.proofs.Common.{arith, ap, sym, ◌∙◌, subst, ⊎_elim}
-use Rattle.std.proofs.lemmas.Bool.{eqb-true, eq-eqb, ltb-true, ltb-false, false≢true}
+use Rattle.std.proofs.lemmas.Bool.{eqb-false, ne_eqb, eqb-true, eq-eqb, ltb-true, ltb-false, false≢true}
 use Rattle.image_defs.specs.Ask.{Done, result_of, given, ◌>>=◌}
 use Rattle.image_defs.proofs.Runs.{result_bind_ok, result_given}
 use Rattle.image_defs.proofs.Looks.{bind_gives, check_gives, given_gives, bind_refuses, check_refuses, given_refuses}
@@ -21,28 +21,12 @@ use Rattle.ntfs_volume_defs.specs.Slots.{Mft, Slot, Empty, Unused, Used, slots, 
 use Rattle.ntfs_volume_defs.specs.Segments.{Held, is_resident, stream_of}
 use Rattle.ntfs_volume_defs.specs.Lists.{Entry, ListContent, list_with, stream_list, list_by, list_content, attributes_in, reference_of, is_named, named_in, extension_of, extension_attributes, record_named, named_record, named_attribute}
 use Rattle.ntfs_damage_defs.specs.Told.{IsToldBy}
-use Rattle.ntfs_damage_defs.proofs.Told.{told_weaker}
+use Rattle.ntfs_damage_defs.proofs.Told.{told_weaker, same_refusal, not_given}
 use Rattle.ntfs_damage_defs.specs.Wrong.{IsWrongSlot, IsWrongStream, IsMissing, NoSlot, NotOfFile, NoAttribute}
 use Rattle.ntfs_damage_defs.specs.SlotDamage.{HasWholeSectors}
 use Rattle.ntfs_damage_defs.proofs.SlotDamage.{slot_refuses}
 use Rattle.ntfs_damage_defs.proofs.StreamDamage.{stream_refuses, stream_is_sound}
 use Rattle.ntfs_damage_defs.specs.EntryDamage.{IsWrongListStream}
-
-pub same_refusal : {X : Type 0} (own refusal : Refusal) → (let one : Result X Refusal = Err own in one ≡ Err refusal) → own ≡ refusal
-same_refusal own refusal same = cc
-
-pub not_given : {X : Type 0} (x : X) (refusal : Refusal) → (let one : Result X Refusal = Ok x in one ≡ Err refusal) → ⊥
-not_given x refusal same = cc
-
-pub not_equal : (a b : ℕ) → (a == b) ≡ false → a ≡ b → ⊥
-not_equal a b differ same = false≢true (sym differ ∙ eq-eqb a b same)
-
-pub equal_not : (a b : ℕ) → (a ≡ b → ⊥) → (a == b) ≡ false
-equal_not a b differ = by_test (a == b) refl
-  where
-    by_test : (test : Bool) → (a == b) ≡ test → (a == b) ≡ false
-    by_test true is = absurd (differ (eqb-true a b is))
-    by_test false is = is
 
 -- an entry is missing, or names a slot that is wrong
 pub data IsWrongEntryOf (image : List ℕ) (mft : Mft) (number : ℕ) (base : FileRecord) (entry : Entry) (sort : Sort) (place : ℕ) : Type 0 where
@@ -70,12 +54,12 @@ module _ (image : List ℕ) (mft : Mft) (number : ℕ) (base : FileRecord) (entr
   record_refuses true refusal sectors is refuses = absurd (not_given (attributes_in number base) refusal refuses)
   record_refuses false refusal sectors is refuses =
       ⊎_elim
-      (λ past. subst (IsToldBy Rule) past.1 (IsMissed (NoSlot (not_equal entry.number number is) (ltb-false entry.number (slots mft) past.0))))
+      (λ past. subst (IsToldBy Rule) past.1 (IsMissed (NoSlot (eqb-false entry.number number is) (ltb-false entry.number (slots mft) past.0))))
       (λ below. ⊎_elim
-      (λ slot. told_weaker (IsWrongSlot image mft entry.number) Rule refusal (λ sort place wrong. NamesWrong (ltb-true entry.number (slots mft) below.0) (not_equal entry.number number is) wrong) (slot_refuses image mft entry.number refusal sectors slot))
+      (λ slot. told_weaker (IsWrongSlot image mft entry.number) Rule refusal (λ sort place wrong. NamesWrong (ltb-true entry.number (slots mft) below.0) (eqb-false entry.number number is) wrong) (slot_refuses image mft entry.number refusal sectors slot))
       (λ slot. ⊎_elim
       (λ other. subst (IsToldBy Rule) (extension_missing (reference_of number base.header) entry.place slot.0 refusal other)
-      (IsMissed (NotOfFile slot.0 (not_equal entry.number number is) slot.1 (λ found gives. not_given found refusal (sym gives ∙ other)))))
+      (IsMissed (NotOfFile slot.0 (eqb-false entry.number number is) slot.1 (λ found gives. not_given found refusal (sym gives ∙ other)))))
       (λ found. absurd (not_given (attributes_in entry.number found.0) refusal found.2))
       (given_refuses image (extension_of (reference_of number base.header) entry.place slot.0) (λ found. Done (attributes_in entry.number found)) refusal slot.2))
       (bind_refuses image (slot_of mft entry.number) (extension_attributes number base entry) refusal below.1))
@@ -95,7 +79,7 @@ module _ (image : List ℕ) (mft : Mft) (number : ℕ) (base : FileRecord) (entr
   pub other_slot : (attributes : List Held) → (entry.number ≡ number → ⊥) → result_of image (named_record mft number base entry) ≡ Ok attributes
       → (entry.number < slots mft) × (slot : Slot) × (found : FileRecord) × (result_of image (slot_of mft entry.number) ≡ Ok slot) × (extension_of (reference_of number base.header) entry.place slot ≡ Ok found)
   other_slot attributes differs gives =
-      let other = sym (ap (λ own. result_of image (record_named mft number base entry own)) (equal_not entry.number number differs)) ∙ gives in
+      let other = sym (ap (λ own. result_of image (record_named mft number base entry own)) (ne_eqb entry.number number differs)) ∙ gives in
       let below = check_gives image (nat_lt entry.number (slots mft)) (Damaged AttributeMissing entry.place) (λ x. slot_of mft entry.number >>= extension_attributes number base entry) attributes other in
       let slot = bind_gives image (slot_of mft entry.number) (extension_attributes number base entry) attributes below.1 in
       let found = given_gives image (extension_of (reference_of number base.header) entry.place slot.0) (λ found. Done (attributes_in entry.number found)) attributes slot.2 in

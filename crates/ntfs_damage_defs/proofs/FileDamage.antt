@@ -25,7 +25,7 @@ use Rattle.ntfs_volume_defs.specs.Parts.{is_part, leaders, resident_part, readab
 use Rattle.ntfs_volume_defs.specs.Files.{Assembled, with_entries, with_list, assembled_by, assembled, file_with, with_assembled, file_by, file_in, file_of}
 use Rattle.ntfs_volume_laws.proofs.VolumeLaws.{mft_boot}
 use Rattle.ntfs_damage_defs.specs.Told.{IsToldBy}
-use Rattle.ntfs_damage_defs.proofs.Told.{told_weaker}
+use Rattle.ntfs_damage_defs.proofs.Told.{told_weaker, same_refusal, not_given}
 use Rattle.ntfs_damage_defs.specs.Wrong.{IsWrongSlot, Twice, IsWrongStream, WrongSegment, IsWrongList}
 use Rattle.ntfs_damage_defs.specs.Damage.{IsBoot, IsFileBase, OfFile, HasContent, Below, AreAttributesOf, ArePartOf, IsFalseAt, WrongSlot, WrongListStream, WrongListEntry, Missing, NoName, WrongPart, TooLongUnreadable}
 use Rattle.ntfs_damage_defs.specs.SlotDamage.{HasWholeSectors}
@@ -33,7 +33,7 @@ use Rattle.ntfs_damage_defs.specs.EntryDamage.{IsWrongListStream}
 use Rattle.ntfs_damage_defs.proofs.SlotDamage.{slot_refuses}
 use Rattle.ntfs_damage_defs.proofs.StreamDamage.{stream_refuses}
 use Rattle.ntfs_damage_defs.proofs.ListDamage.{value_refuses, list_refuses}
-use Rattle.ntfs_damage_defs.proofs.EntryDamage.{same_refusal, not_given, IsWrongEntryOf, IsMissed, NamesWrong, entry_refuses, content_refuses}
+use Rattle.ntfs_damage_defs.proofs.EntryDamage.{IsWrongEntryOf, IsMissed, NamesWrong, entry_refuses, content_refuses}
 use Rattle.ntfs_damage_defs.proofs.BootDamage.{boot_is_read}
 use Rattle.ntfs_damage_defs.proofs.Each.{contains_first, contains_later, each_refuses}
 

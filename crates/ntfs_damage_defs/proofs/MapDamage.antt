@@ -2,7 +2,7 @@
 use Rattle.std.specs.Prelude.{◌≡◌, ℕ, ◌+◌, ◌*◌, ◌==◌, Bool, true, false, nat_le, if◌then◌else◌, Option, Some, None, Result, Ok, Err, List, [], ◌∷◌, ◌++◌, refl}
 use Rattle.std.specs.List.{filter}
 use Rattle.std.proofs.Common.{arith, ap, sym, ◌∙◌, subst, ⊎_elim, inl, inr, append_assoc}
-use Rattle.std.proofs.lemmas.Bool.{eqb-true, leb-true, leb-false, or_left, false≢true}
+use Rattle.std.proofs.lemmas.Bool.{eqb-true, eqb-false, leb-true, leb-false, or_left, false≢true}
 use Rattle.image_defs.specs.Ask.{Done, result_of, given, ◌>>=◌}
 use Rattle.image_defs.proofs.Runs.{result_bind_ok, result_given}
 use Rattle.image_defs.proofs.Looks.{bind_gives, given_gives, bind_refuses, check_refuses, given_refuses}
@@ -21,7 +21,7 @@ use Rattle.ntfs_volume_defs.specs.Lists.{Entry, attributes_in, list_of, list_con
 use Rattle.ntfs_volume_defs.specs.Mft.{no_map, first_slot_alone, with_content, with_runs, is_no_map, with_segment, and_then_segments, with_segments, first_base, is_for_content, segment_in, next_segment, segments_behind, mft_entries, all_segments, known_mft, mft_with, mft_behind, mft_of}
 use Rattle.ntfs_volume_laws.proofs.MapLaws.{behind_boot, entry_gives}
 use Rattle.ntfs_damage_defs.specs.Told.{IsToldBy}
-use Rattle.ntfs_damage_defs.proofs.Told.{told_weaker}
+use Rattle.ntfs_damage_defs.proofs.Told.{told_weaker, same_refusal, not_given}
 use Rattle.ntfs_damage_defs.specs.Wrong.{IsWrongSlot, IsWrongSegment, IsWrongStream, IsWrongList, NoAttribute}
 use Rattle.ntfs_damage_defs.specs.Damage.{IsBoot, HasFirstSlot, IsMftBase, OfMft, AreMftEntries, IsNextEntry, IsMapped, First, Next, IsMftSegment, Own, Listed, known_mft_of, IsFalseAt, WrongSlot, WrongListStream, WrongListEntry, MissingSegment, NoFirstSlot, NoMftBase, NoMapping, NotMapped, NoMftContent, WrongMftSegment, WrongMftStart}
 use Rattle.ntfs_damage_defs.specs.SlotDamage.{HasWholeSectors}
@@ -30,7 +30,7 @@ use Rattle.ntfs_damage_defs.proofs.SlotDamage.{slot_refuses}
 use Rattle.ntfs_damage_defs.proofs.StreamDamage.{segment_refuses, stream_refuses}
 use Rattle.ntfs_damage_defs.proofs.ListDamage.{value_refuses, list_refuses}
 use Rattle.ntfs_damage_defs.specs.EntryDamage.{IsWrongListStream}
-use Rattle.ntfs_damage_defs.proofs.EntryDamage.{same_refusal, not_given, not_equal, none_found, IsWrongEntryOf, IsMissed, NamesWrong, entry_refuses, content_refuses}
+use Rattle.ntfs_damage_defs.proofs.EntryDamage.{none_found, IsWrongEntryOf, IsMissed, NamesWrong, entry_refuses, content_refuses}
 
 -- ---- more segments
 
@@ -176,10 +176,10 @@ module _ (image : List ℕ) (at len : ℕ) (boot : Boot) (is_boot : IsBoot image
       (MissingSegment boot base known entry AttributeMissing entry.place is_boot next (inl (eqb-true entry.number 0 is))
       (NoAttribute (attributes_in 0 base) (ap (λ own. result_of image (record_named mft 0 base entry own)) is) none.0))
   next_told base None entry false refusal next is refuses =
-      subst (IsToldBy Rules) (same_refusal {X = Held} (no_map boot) refusal refuses) (NotMapped boot base None entry is_boot next (not_equal entry.number 0 is) (λ mft none maps. absurd cc))
+      subst (IsToldBy Rules) (same_refusal {X = Held} (no_map boot) refusal refuses) (NotMapped boot base None entry is_boot next (eqb-false entry.number 0 is) (λ mft none maps. absurd cc))
   next_told base (Some mft) entry false refusal next is refuses =
       let boot_is : mft.boot ≡ boot = behind_boot image boot base None next.front (Some mft) tt next.known_is in
-      let differs = not_equal entry.number 0 is in
+      let differs = eqb-false entry.number 0 is in
       ⊎_elim
       (λ past. subst (IsToldBy Rules) past.1
       (NotMapped boot base (Some mft) entry is_boot next differs (λ other same maps.
@@ -269,7 +269,7 @@ module _ (image : List ℕ) (at len : ℕ) (boot : Boot) (is_boot : IsBoot image
           by_test true is refuses = absurd (not_given found refusal refuses)
           by_test false is refuses = (
             same_refusal {X = FileRecord} (no_map boot) refusal refuses,
-            λ base same none. let own : found ≡ base = cc in not_equal found.header.base 0 is (ap (λ (found : FileRecord). found.header.base) own ∙ none),
+            λ base same none. let own : found ≡ base = cc in eqb-false found.header.base 0 is (ap (λ (found : FileRecord). found.header.base) own ∙ none),
           )
 
   pub mft_refuses : (refusal : Refusal) → result_of image (mft_of boot) ≡ Err refusal → IsToldBy (IsFalseAt image at len) refusal

@@ -3,7 +3,7 @@ use Rattle.std.specs.Prelude.{◌≡◌, ℕ, ◌+◌, ◌*◌, ◌⊎◌, Bool,
 use Rattle.std.specs.List.{filter}
 use Rattle.std.specs.Option.{ok_or}
 use Rattle.std.proofs.Common.{ap, sym, ◌∙◌, subst, ⊎_elim}
-use Rattle.std.proofs.lemmas.Bool.{eq-eqb, leb-true, cases_eq, false≢true}
+use Rattle.std.proofs.lemmas.Bool.{eq-eqb, ne_eqb, leb-true, cases_eq, false≢true}
 use Rattle.image_defs.specs.Ask.{Done, result_of, given}
 use Rattle.image_defs.proofs.Runs.{result_given}
 use Rattle.image_defs.proofs.Looks.{bind_gives, check_gives, given_gives}
@@ -22,10 +22,11 @@ use Rattle.ntfs_volume_defs.specs.Mft.{no_map, first_slot_alone, with_content, w
 use Rattle.ntfs_volume_laws.proofs.MapLaws.{entry_gives}
 use Rattle.ntfs_damage_defs.specs.Wrong.{IsWrongSlot, IsWrongSegment, IsWrongStream, IsMissing, NoSlot, NotOfFile, NoAttribute}
 use Rattle.ntfs_damage_defs.specs.Damage.{IsMftBase, AreMftEntries, IsNextEntry, IsMapped, IsMftSegment, Own, Listed, known_mft_of}
+use Rattle.ntfs_damage_defs.proofs.Told.{not_given}
 use Rattle.ntfs_damage_defs.proofs.SlotDamage.{slot_is_sound}
 use Rattle.ntfs_damage_defs.proofs.StreamDamage.{segment_is_sound, stream_is_sound}
 use Rattle.ntfs_damage_defs.proofs.ListDamage.{value_gives}
-use Rattle.ntfs_damage_defs.proofs.EntryDamage.{equal_not, not_given, other_slot, entry_is_sound}
+use Rattle.ntfs_damage_defs.proofs.EntryDamage.{other_slot, entry_is_sound}
 use Rattle.ntfs_damage_defs.proofs.MapDamage.{first_base_is, behind_none}
 
 -- ---- $MFT, from its base record and its segments
@@ -123,7 +124,7 @@ record IsReadElsewhere (image : List ℕ) (boot : Boot) (base : FileRecord) (kno
 
 elsewhere : (image : List ℕ) (boot : Boot) (base : FileRecord) (known : Option Mft) (entry : Entry) (held : Held) → (entry.number ≡ 0 → ⊥) → result_of image (next_segment boot base known entry) ≡ Ok held
     → IsReadElsewhere image boot base known entry held
-elsewhere image boot base known entry held differs gives = by_known known (sym (ap (λ own. result_of image (segment_in boot base known entry own)) (equal_not entry.number 0 differs)) ∙ gives)
+elsewhere image boot base known entry held differs gives = by_known known (sym (ap (λ own. result_of image (segment_in boot base known entry own)) (ne_eqb entry.number 0 differs)) ∙ gives)
   where
     by_known : (known : Option Mft) → result_of image (segment_in boot base known entry false) ≡ Ok held → IsReadElsewhere image boot base known entry held
     by_known None gives = absurd cc

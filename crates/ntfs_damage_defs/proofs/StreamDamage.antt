@@ -1,7 +1,7 @@
 -- A stream that is refused has a segment, or sizes, that break a rule; one that is given has none.
 use Rattle.std.specs.Prelude.{◌≡◌, ℕ, ◌+◌, ◌%◌, ◌^◌, ◌==◌, ◌||◌, Bool, true, false, nat_lt, if◌then◌else◌, Result, Ok, Err, List, [], ◌∷◌, ◌++◌, refl}
 use Rattle.std.proofs.Common.{ap, sym, ◌∙◌, subst, ⊎_elim, inl, inr, append_assoc}
-use Rattle.std.proofs.lemmas.Bool.{eqb-true, eq-eqb, ltb-true, or_cases, or_left, or_right, lt-ltb, false≢true}
+use Rattle.std.proofs.lemmas.Bool.{eqb-true, eqb-false, eq-eqb, ltb-true, or_cases, or_left, or_right, lt-ltb, false≢true}
 use Rattle.fault_defs.specs.declared.Sort.{Sort}
 use Rattle.fault_defs.specs.declared.Sort.TheVariants.{RunList, RunCount, SegmentGap, Sizes}
 use Rattle.fault_defs.specs.declared.Refusal.{Refusal}
@@ -14,14 +14,8 @@ use Rattle.ntfs_volume_defs.specs.Streams.{Stream}
 use Rattle.ntfs_volume_defs.specs.Slots.{Mft}
 use Rattle.ntfs_volume_defs.specs.Segments.{Held, clusters_in, damaged_at, place_in, attribute_place, counted_runs, segment_runs, and_then_runs, segments_runs, sized_stream, stream_by, stream_of}
 use Rattle.ntfs_damage_defs.specs.Told.{IsToldBy}
-use Rattle.ntfs_damage_defs.proofs.Told.{told_weaker}
+use Rattle.ntfs_damage_defs.proofs.Told.{told_weaker, same_refusal}
 use Rattle.ntfs_damage_defs.specs.Wrong.{IsWrongSegment, WrongRuns, WrongCount, Gap, Twice, IsWrongStream, WrongSegment, TooLarge}
-
-not_equal : (a b : ℕ) → (a == b) ≡ false → a ≡ b → ⊥
-not_equal a b differ same = false≢true (sym differ ∙ eq-eqb a b same)
-
-same_refusal : {X : Type 0} (own refusal : Refusal) → (let one : Result X Refusal = Err own in one ≡ Err refusal) → own ≡ refusal
-same_refusal own refusal same = cc
 
 -- ---- one segment
 
@@ -37,14 +31,14 @@ module _ (mft : Mft) (before : ℕ) (held : Held) (header : StreamHeader) (is : 
       by_test true tests refuses = absurd cc
       by_test false tests refuses =
           subst (IsToldBy (IsWrongSegment mft before held)) (same_refusal {X = List Run} (Damaged RunCount (attribute_place mft held)) refusal refuses)
-          (WrongCount header runs is decodes (not_equal ((header.first + clusters_in runs) % 2 ^ 64) ((header.last + 1) % 2 ^ 64) tests))
+          (WrongCount header runs is decodes (eqb-false ((header.first + clusters_in runs) % 2 ^ 64) ((header.last + 1) % 2 ^ 64) tests))
 
   begun_refuses : (begins : Bool) (refusal : Refusal) → (header.first == before) ≡ begins
       → (if begins then counted_runs mft held header (decoded_runs mft.boot.clusters held.opened.body) else Err (Damaged SegmentGap (attribute_place mft held))) ≡ Err refusal
       → IsToldBy (IsWrongSegment mft before held) refusal
   begun_refuses true refusal begins refuses = counted_refuses (decoded_runs mft.boot.clusters held.opened.body) refusal refl refuses
   begun_refuses false refusal begins refuses =
-      subst (IsToldBy (IsWrongSegment mft before held)) (same_refusal {X = List Run} (Damaged SegmentGap (attribute_place mft held)) refusal refuses) (Gap header is (not_equal header.first before begins))
+      subst (IsToldBy (IsWrongSegment mft before held)) (same_refusal {X = List Run} (Damaged SegmentGap (attribute_place mft held)) refusal refuses) (Gap header is (eqb-false header.first before begins))
 
 pub segment_refuses : (mft : Mft) (before : ℕ) (held : Held) (form : Form) (refusal : Refusal) → held.opened.attribute.form ≡ form → segment_runs mft before held form ≡ Err refusal
     → IsToldBy (IsWrongSegment mft before held) refusal

@@ -17,7 +17,7 @@ use Rattle.ntfs_volume_defs.specs.Files.{file_of, files_of}
 use Rattle.ntfs_volume_defs.specs.Volume.{FoundVolume, all_found, all_paths, piece_count, longest_path, within_limits, volume_with, volume_behind, volume_at}
 use Rattle.ntfs_damage_defs.specs.Told.{IsToldBy}
 use Rattle.ntfs_damage_defs.specs.Damage.{IsBoot, IsFalseAt}
-use Rattle.ntfs_damage_defs.proofs.EntryDamage.{not_given}
+use Rattle.ntfs_damage_defs.proofs.Told.{not_given}
 use Rattle.ntfs_damage_defs.proofs.BootDamage.{boot_refuses}
 use Rattle.ntfs_damage_defs.proofs.MapDamage.{mft_refuses}
 use Rattle.ntfs_damage_defs.proofs.FileDamage.{file_refuses}
