@@ -6,6 +6,7 @@ pub mod ListDamage
 pub mod MapDamage
 pub mod RecordFaults
 pub mod SlotDamage
+pub mod SoundBoot
 pub mod SoundFiles
 pub mod SoundMap
 pub mod SoundVolume

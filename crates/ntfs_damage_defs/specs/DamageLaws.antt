@@ -1,6 +1,7 @@
 -- The laws of damage: of slots, of streams, of attribute lists and their content, and of a volume with its boot sector, $MFT and files.
 use Rattle.std.specs.Prelude.{◌≡◌, ℕ, ◌<◌, false, Ok, Err, List, []}
 use Rattle.fault_defs.specs.declared.Sort.{Sort}
+use Rattle.fault_defs.specs.declared.Sort.TheVariants.{BootField, MftMap}
 use Rattle.fault_defs.specs.declared.Refusal.{Refusal}
 use Rattle.image_defs.specs.Ask.{result_of}
 use Rattle.ntfs_volume_defs.specs.Slots.{Mft, Slot, slots, slot_of}
@@ -53,10 +54,18 @@ ContentReadLaw = (image : List ℕ) (mft : Mft) (list : Held) (content : ListCon
 abbrev pub BootRefusedLaw : Type 0
 BootRefusedLaw = (image : List ℕ) (at len : ℕ) (refusal : Refusal) → result_of image (boot_at at len) ≡ Err refusal → IsToldBy (IsFalseAt image at len) refusal
 
+-- one that is read breaks none of its rules
+abbrev pub BootReadLaw : Type 0
+BootReadLaw = (image : List ℕ) (at len : ℕ) (boot : Boot) (place : ℕ) → IsBoot image at len boot → IsFalseAt image at len BootField place → ⊥
+
 -- where the boot sector is sound, $MFT is refused for damage only where a rule of the volume is broken at that place
 abbrev pub MftRefusedLaw : Type 0
 MftRefusedLaw = (image : List ℕ) (at len : ℕ) (boot : Boot) → IsBoot image at len boot → (refusal : Refusal) → result_of image (mft_of boot) ≡ Err refusal
     → IsToldBy (IsFalseAt image at len) refusal
+
+-- one that is found breaks no rule of its map
+abbrev pub MftReadLaw : Type 0
+MftReadLaw = (image : List ℕ) (at len : ℕ) (boot : Boot) (mft : Mft) (place : ℕ) → IsBoot image at len boot → result_of image (mft_of boot) ≡ Ok mft → IsFalseAt image at len MftMap place → ⊥
 
 -- where the boot sector and $MFT are sound, a file of a slot is refused for damage only where a rule of the volume is broken at that place
 abbrev pub FileRefusedLaw : Type 0

@@ -1,5 +1,5 @@
 //! What is proved of damage: the contract of each of these functions is a law, and its body is empty.
-ghost use Rattle.ntfs_damage_defs.specs.DamageLaws.{SlotRefusedLaw, SlotReadLaw, StreamRefusedLaw, StreamReadLaw, ListRefusedLaw, ListReadLaw, ContentRefusedLaw, ContentReadLaw, BootRefusedLaw, MftRefusedLaw, FileRefusedLaw, VolumeRefusedLaw, VolumeReadLaw};
+ghost use Rattle.ntfs_damage_defs.specs.DamageLaws.{SlotRefusedLaw, SlotReadLaw, StreamRefusedLaw, StreamReadLaw, ListRefusedLaw, ListReadLaw, ContentRefusedLaw, ContentReadLaw, BootRefusedLaw, BootReadLaw, MftRefusedLaw, MftReadLaw, FileRefusedLaw, VolumeRefusedLaw, VolumeReadLaw};
 
 /// A slot that is refused for damage has what is wrong, at the place that is told; one that is read has nothing wrong.
 #[tactic(auto, using(crate::proofs::SlotDamage::slot_refuses, crate::proofs::SlotDamage::slot_is_sound))]
@@ -29,16 +29,19 @@ pub fn contents_of_lists_are_refused_for_what_is_wrong()
     ensures read { ContentReadLaw }
 {}
 
-/// A boot sector is refused for damage only where a rule of it is broken at that place.
-#[tactic(auto, using(crate::proofs::BootDamage::boot_refuses))]
+/// A boot sector is refused for damage only where a rule of it is broken at that place; one that is read breaks none.
+#[tactic(auto, using(crate::proofs::BootDamage::boot_refuses, crate::proofs::SoundBoot::boot_is_sound))]
 pub fn the_boot_sector_is_refused_for_what_is_wrong()
-    ensures { BootRefusedLaw }
+    ensures refused { BootRefusedLaw }
+    ensures read { BootReadLaw }
 {}
 
-/// Where the boot sector is sound, `$MFT` is refused for damage only where a rule of the volume is broken at that place.
-#[tactic(auto, using(crate::proofs::MapDamage::mft_refuses))]
+/// Where the boot sector is sound, `$MFT` is refused for damage only where a rule of the volume is broken at that place; one that
+/// is found breaks no rule of its map.
+#[tactic(auto, using(crate::proofs::MapDamage::mft_refuses, crate::proofs::SoundBoot::mft_is_sound))]
 pub fn the_mft_is_refused_for_what_is_wrong()
-    ensures { MftRefusedLaw }
+    ensures refused { MftRefusedLaw }
+    ensures read { MftReadLaw }
 {}
 
 /// The same of the file of a slot.
