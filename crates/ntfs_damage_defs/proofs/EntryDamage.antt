@@ -1,9 +1,9 @@
--- Laws behind EntryDamage: an entry whose attribute isn't found breaks a rule, or names a wrong slot; one whose attribute is found breaks none. A list
--- that isn't read is a wrong stream.
+-- Laws behind EntryDamage: an entry whose attribute is not found breaks a rule, or names a wrong slot; one whose attribute is found
+-- breaks none. A list that is not read is a wrong stream.
 use Rattle.std.specs.Prelude.{◌≡◌, ℕ, ◌<◌, ◌&&◌, ◌==◌, Bool, true, false, nat_le, nat_lt, if◌then◌else◌, Option, Some, None, Result, Ok, Err, List, [], find, refl}
 use Rattle.std.specs.Option.{ok_or}
 use Rattle.std.proofs.Common.{arith, ap, sym, ◌∙◌, subst, ⊎_elim}
-use Rattle.std.proofs.lemmas.Bool.{eqb-false, ne_eqb, eqb-true, eq-eqb, ltb-true, ltb-false, false≢true}
+use Rattle.std.proofs.lemmas.Bool.{eqb-false, ne_eqb, ltb-true, ltb-false, false≢true}
 use Rattle.image_defs.specs.Ask.{Done, result_of, given, ◌>>=◌}
 use Rattle.image_defs.proofs.Runs.{result_bind_ok, result_given}
 use Rattle.image_defs.proofs.Looks.{bind_gives, check_gives, given_gives, bind_refuses, check_refuses, given_refuses}

@@ -51,10 +51,11 @@ mft_is_read image boot mft gives =
     let base = given_gives image (first_base boot slot.0) (mft_with boot) mft slot.2 in
     let known = bind_gives image (all_segments boot base.0 (list_of (attributes_in 0 base.0))) (known_mft boot) mft base.2 in
     let own = first_base_is boot slot.0 base.0 base.1 in
+    let last = known_is image boot known.0 mft known.2 in
     record {
       base = base.0;
-      base_is = record { inside = leb-true (first_slot_at boot + boot.record_size) (boot.at + boot.len) inside.0; slot_is = slot.1 ∙ ap Ok own.0; is_base = own.1 };
-      segments = known.1 ∙ ap Ok (known_is image boot known.0 mft known.2);
+      base_is = record { inside = leb-true (first_slot_at boot + boot.record_size) (boot.at + boot.len) inside.0; slot_is = cc (slot.1, own.0); is_base = own.1 };
+      segments = cc (known.1, last);
     }
 
 -- ---- segments behind those in front

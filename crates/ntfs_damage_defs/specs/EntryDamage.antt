@@ -1,5 +1,4 @@
--- An entry whose attribute isn't found breaks a rule, or names a wrong slot; one whose attribute is found breaks none. A list
--- that isn't read is a wrong stream.
+-- An attribute list in clusters that is not read has a wrong stream.
 use Rattle.std.specs.Prelude.{◌≡◌, ℕ, false, []}
 use Rattle.fault_defs.specs.declared.Sort.{Sort}
 use Rattle.ntfs_volume_defs.specs.Slots.{Mft}

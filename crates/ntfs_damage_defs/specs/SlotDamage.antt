@@ -1,4 +1,4 @@
--- A slot that is refused breaks a rule; one that is given breaks none.
+-- Sizes of clusters and records in whole sectors.
 use Rattle.std.specs.Prelude.{◌≡◌, ◌%◌, ◌<◌, ◌≤◌}
 use Rattle.ntfs_volume_defs.specs.declared.boot.Boot.{Boot}
 
