@@ -5,8 +5,8 @@
 //! the order in which a reader meets them.
 //!
 //! The promised laws of `laws` are of slots, streams, attribute lists and their content, and of a whole volume: a refusal for
-//! damage has its broken rule at its place, and what is read has none. That a refusal has its rule stands for the boot sector,
-//! `$MFT` and each file by itself too.
+//! damage has its broken rule at its place, and what is read has none. The boot sector and `$MFT` have both laws by themselves
+//! too, for their own rules, and each file the first.
 #![tactic(auto)]
 
 pub mod laws;
