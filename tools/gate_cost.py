@@ -4,9 +4,9 @@
     tools/gate_cost.py [--every SECONDS] [WORD..]      runs `rt ci WORD..` at the top of the repository
 
 It looks at the processes of the gate some times a second (Linux, /proc) and adds up what each used. The steps are: proof
-(a crate without its tests), tests (a crate proved with its tests), edits (wrong bodies that must be refused), build
-(libraries, test programs and programs), run (tests and programs that run) and other. What was proved in an earlier run on this
-machine isn't proved again: `rt ci --anew` measures everything.
+(a crate without its tests), tests (a crate proved with its tests), edits (wrong bodies that must be refused), build (the
+compiler and the linker behind them), run (tests and programs that run) and other. What was proved in an earlier run on this
+machine isn't proved again: `--anew` measures everything.
 """
 import collections
 import os
@@ -37,9 +37,9 @@ def label(pid):
     crate = named.group(1) if named else ""
     if "rattle" not in words[0]:
         return crate, "run" if crate and "python" not in words[0] and "bash" not in words[0] and "rt" != words[0].split("/")[-1] else "other"
-    if re.search(r"must-fail|edits?/|/edit", place + " " + text):
+    if "/rt-edit-" in place:
         return crate, "edits"
-    if len(words) > 1 and words[1] == "build":
+    if "/toolchain/" in words[0]:
         return crate, "build"
     return crate, "tests" if "--test" in words else "proof"
 
