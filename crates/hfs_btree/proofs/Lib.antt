@@ -1,0 +1,5 @@
+pub mod Nodes
+pub mod Places
+pub mod Chains
+pub mod Moves
+pub mod HeadLaws

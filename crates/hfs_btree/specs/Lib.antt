@@ -1,0 +1,4 @@
+pub mod Cursor
+pub mod Heads
+pub mod Kept
+pub mod Lent
