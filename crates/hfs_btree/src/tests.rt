@@ -1,5 +1,5 @@
-//! Tests of what no clause says: the leaf records of a small tree file in two pieces, a chain that comes back on itself, and a
-//! device that fails at each call.
+//! Tests of what no clause says: the leaf records of a small tree file in two pieces, a chain that comes back on itself, one
+//! that leaves the file, and a device that fails at each call.
 ghost use Rattle.std.specs.Prelude.{◌≡◌, IfOk};
 ghost use Rattle.disk_defs.specs.Disk.{size_of};
 ghost use Rattle.disk_defs.specs.declared.Area.TheVariants.{Image};
@@ -125,6 +125,23 @@ fn a_chain_that_comes_back_ends(rt: HostRuntime) -> Result<(), Fail> {
     assert_eq!(rt;
         next(&mut store, &mut leaves),
         Err(ReadFault::Damaged(Sort::NodeLink, 9))
+    );
+    Ok(())
+}
+
+#[test]
+fn a_chain_that_leaves_the_file_ends(rt: HostRuntime) -> Result<(), Fail> {
+    let mut image = image();
+    image[2515] = 4;
+    let mut store = store_of(rt.alloc(), &image)?;
+    let mut leaves = Leaves::start(rt.alloc(), &mut store, pieces(rt.alloc())?, 2048, 9).expect(
+        &rt, "a tree",
+    );
+    assert_eq!(rt; next(&mut store, &mut leaves), Ok(Some((1, 0, 2526, 20))));
+    assert_eq!(rt; next(&mut store, &mut leaves), Ok(Some((1, 1, 106, 6))));
+    assert_eq!(rt;
+        next(&mut store, &mut leaves),
+        Err(ReadFault::Damaged(Sort::NodeLink, 2512))
     );
     Ok(())
 }
