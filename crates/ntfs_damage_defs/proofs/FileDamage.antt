@@ -23,7 +23,7 @@ use Rattle.ntfs_volume_defs.specs.Mft.{mft_of}
 use Rattle.ntfs_volume_defs.specs.Names.{FoundName, is_sound_name, is_dos, found_name, names_of, file_names}
 use Rattle.ntfs_volume_defs.specs.Parts.{is_part, leaders, resident_part, readable_part, stream_part, part_by, part_of, parts_led_by, parts_of}
 use Rattle.ntfs_volume_defs.specs.Files.{Assembled, with_entries, with_list, assembled_by, assembled, file_with, with_assembled, file_by, file_in, file_of}
-use Rattle.ntfs_volume_laws.proofs.VolumeLaws.{mft_boot}
+use Rattle.ntfs_guard_defs.proofs.VolumeLaws.{mft_boot}
 use Rattle.ntfs_damage_defs.specs.Told.{IsToldBy}
 use Rattle.ntfs_damage_defs.proofs.Told.{told_weaker, same_refusal, not_given}
 use Rattle.ntfs_damage_defs.specs.Wrong.{IsWrongSlot, Twice, IsWrongStream, WrongSegment, IsWrongList}

@@ -19,7 +19,8 @@ use Rattle.ntfs_volume_defs.specs.Slots.{Mft, Slot, Empty, Unused, Used, slots, 
 use Rattle.ntfs_volume_defs.specs.Segments.{Held, is_resident, is_unreadable, clusters_in, segment_runs, segments_of, stream_of}
 use Rattle.ntfs_volume_defs.specs.Lists.{Entry, attributes_in, list_of, list_content, entries_of, named_in, record_named, named_attribute}
 use Rattle.ntfs_volume_defs.specs.Mft.{no_map, first_slot_alone, with_content, with_runs, is_no_map, with_segment, and_then_segments, with_segments, first_base, is_for_content, segment_in, next_segment, segments_behind, mft_entries, all_segments, known_mft, mft_with, mft_behind, mft_of}
-use Rattle.ntfs_volume_laws.proofs.MapLaws.{behind_boot, entry_gives}
+use Rattle.ntfs_guard_defs.proofs.VolumeLaws.{base_is}
+use Rattle.ntfs_guard_defs.proofs.MapLaws.{behind_boot, entry_gives}
 use Rattle.ntfs_damage_defs.specs.Told.{IsToldBy}
 use Rattle.ntfs_damage_defs.proofs.Told.{told_weaker, same_refusal, not_given}
 use Rattle.ntfs_damage_defs.specs.Wrong.{IsWrongSlot, IsWrongSegment, IsWrongStream, IsWrongList, NoAttribute}
@@ -113,15 +114,7 @@ mapping_is_clustered held maps = by_test (is_resident held) refl
 
 -- the base record in slot 0
 pub first_base_is : (boot : Boot) (slot : Slot) (base : FileRecord) → first_base boot slot ≡ Ok base → (slot ≡ Used base) × (base.header.base ≡ 0)
-first_base_is boot Empty base gives = absurd cc
-first_base_is boot Unused base gives = absurd cc
-first_base_is boot (Used found) base gives = by_test (found.header.base == 0) refl gives
-  where
-    by_test : (test : Bool) → (found.header.base == 0) ≡ test → if◌then◌else◌ {A = Result FileRecord Refusal} test (Ok found) (Err (no_map boot)) ≡ Ok base → (Used found ≡ Used base) × (base.header.base ≡ 0)
-    by_test false is gives = absurd cc
-    by_test true is gives =
-        let own : found ≡ base = cc in
-        (ap Used own, sym (ap (λ (found : FileRecord). found.header.base) own) ∙ eqb-true found.header.base 0 is)
+first_base_is boot slot base gives = let is = base_is boot slot base gives in (is.0, eqb-true base.header.base 0 is.1)
 
 -- ---- what refuses
 

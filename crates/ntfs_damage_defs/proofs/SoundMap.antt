@@ -4,22 +4,22 @@ use Rattle.std.specs.List.{filter}
 use Rattle.std.specs.Option.{ok_or}
 use Rattle.std.proofs.Common.{ap, sym, ◌∙◌, subst, ⊎_elim}
 use Rattle.std.proofs.lemmas.Bool.{eq-eqb, ne_eqb, leb-true, cases_eq, false≢true}
-use Rattle.image_defs.specs.Ask.{Done, result_of, given}
+use Rattle.image_defs.specs.Ask.{result_of, given}
 use Rattle.image_defs.proofs.Runs.{result_given}
 use Rattle.image_defs.proofs.Looks.{bind_gives, check_gives, given_gives}
 use Rattle.fault_defs.specs.declared.Sort.{Sort}
 use Rattle.fault_defs.specs.declared.Sort.TheVariants.{AttributeMissing}
-use Rattle.fault_defs.specs.declared.Bound.TheVariants.{Slots}
 use Rattle.fault_defs.specs.declared.Refusal.{Refusal}
-use Rattle.fault_defs.specs.declared.Refusal.TheVariants.{Damaged, Limit}
+use Rattle.fault_defs.specs.declared.Refusal.TheVariants.{Damaged}
 use Rattle.ntfs_record_defs.specs.Record.{FileRecord}
 use Rattle.ntfs_volume_defs.specs.declared.boot.Boot.{Boot}
 use Rattle.ntfs_volume_defs.specs.Streams.{mapped}
-use Rattle.ntfs_volume_defs.specs.Slots.{Mft, slots, first_slot_at, slot_of}
+use Rattle.ntfs_volume_defs.specs.Slots.{Mft, first_slot_at, slot_of}
 use Rattle.ntfs_volume_defs.specs.Segments.{Held, clusters_in, segment_runs, segments_of, stream_of}
 use Rattle.ntfs_volume_defs.specs.Lists.{Entry, ListContent, attributes_in, list_of, list_content, entries_of, named_in, record_named, named_record, named_attribute}
 use Rattle.ntfs_volume_defs.specs.Mft.{no_map, first_slot_alone, with_content, with_runs, is_no_map, with_segment, and_then_segments, with_segments, first_base, is_for_content, segment_in, next_segment, segments_behind, mft_entries, all_segments, known_mft, mft_with, mft_behind, mft_of}
-use Rattle.ntfs_volume_laws.proofs.MapLaws.{entry_gives}
+use Rattle.ntfs_guard_defs.proofs.MapLaws.{entry_gives}
+use Rattle.ntfs_guard_defs.proofs.VolumeLaws.{known_is}
 use Rattle.ntfs_damage_defs.specs.Wrong.{IsWrongSlot, IsWrongSegment, IsWrongStream, IsMissing, NoSlot, NotOfFile, NoAttribute}
 use Rattle.ntfs_damage_defs.specs.Damage.{IsMftBase, AreMftEntries, IsNextEntry, IsMapped, IsMftSegment, Own, Listed, known_mft_of}
 use Rattle.ntfs_damage_defs.proofs.Told.{not_given}
@@ -30,13 +30,6 @@ use Rattle.ntfs_damage_defs.proofs.EntryDamage.{other_slot, entry_is_sound}
 use Rattle.ntfs_damage_defs.proofs.MapDamage.{first_base_is, behind_none}
 
 -- ---- $MFT, from its base record and its segments
-
-known_is : (image : List ℕ) (boot : Boot) (known : Option Mft) (mft : Mft) → result_of image (known_mft boot known) ≡ Ok mft → known ≡ Some mft
-known_is image boot None mft gives = absurd cc
-known_is image boot (Some found) mft gives =
-    let few = check_gives image (nat_le (slots found) 4000000) (Limit Slots 4000000) (λ x. Done found) mft gives in
-    let same : found ≡ mft = cc (few.1) in
-    ap Some same
 
 pub record IsReadMft (image : List ℕ) (boot : Boot) (mft : Mft) : Type 0 where
   pub base : FileRecord

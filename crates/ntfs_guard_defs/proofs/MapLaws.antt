@@ -20,7 +20,7 @@ use Rattle.fault_defs.specs.declared.Refusal.{Refusal}
 use Rattle.fault_defs.specs.declared.Refusal.TheVariants.{Damaged}
 use Rattle.ntfs_volume_defs.specs.Streams.{Stream, cluster_place, run_place, read_size, stream_place, mapped}
 use Rattle.ntfs_volume_defs.specs.Slots.{Mft, slots, slot_place, first_slot_place, mapped_slot_place}
-use Rattle.ntfs_volume_laws.proofs.SlotLaws.{SamePlaces}
+use Rattle.ntfs_guard_defs.proofs.SlotLaws.{SamePlaces}
 use Rattle.ntfs_volume_defs.specs.Segments.{Held, clusters_in, counted_runs, segment_runs, and_then_runs, segments_runs, sized_stream, stream_by, stream_of, attribute_place}
 use Rattle.ntfs_volume_defs.specs.Lists.{Entry}
 use Rattle.ntfs_volume_defs.specs.Mft.{first_slot_alone, no_map, is_no_map, with_segment, and_then_segments, with_segments, next_segment, segments_behind}

@@ -21,13 +21,13 @@ use Rattle.fault_defs.specs.declared.Refusal.{Refusal}
 use Rattle.fault_defs.specs.declared.Refusal.TheVariants.{Damaged, Limit}
 use Rattle.ntfs_volume_defs.specs.Streams.{Stream, stream_place}
 use Rattle.ntfs_volume_defs.specs.Slots.{Mft, Slot, Empty, Unused, Used, slots, slot_place, slot_of}
-use Rattle.ntfs_volume_laws.proofs.SlotLaws.{IsFree, IsFreeIn, SamePlaces, slot_looks, slot_same}
+use Rattle.ntfs_guard_defs.proofs.SlotLaws.{IsFree, IsFreeIn, SamePlaces, slot_looks, slot_same}
 use Rattle.ntfs_volume_defs.specs.Segments.{Held, stream_of}
 use Rattle.ntfs_volume_defs.specs.Lists.{Entry, ListContent, at_byte, byte_ranges, stream_list, list_by, list_content, entries_of, attributes_in, list_of, reference_of, extension_of, extension_attributes, record_named, named_record, named_in, named_attribute}
 use Rattle.ntfs_volume_defs.specs.Names.{file_names}
 use Rattle.ntfs_volume_defs.specs.Parts.{parts_of}
 use Rattle.ntfs_volume_defs.specs.Files.{Assembled, FoundFile, with_entries, with_list, assembled_by, assembled, file_with, with_assembled, file_by, file_in, file_of}
-use Rattle.ntfs_volume_laws.proofs.HeldLaws.{HoldsContent}
+use Rattle.ntfs_guard_defs.proofs.HeldLaws.{HoldsContent}
 use Rattle.ntfs_volume_defs.specs.Guard.{some_below, is_at, is_content_place, is_slot_byte, is_list_byte, boot_sector, is_guarded}
 use Rattle.ntfs_volume_defs.specs.Volume.{all_found}
 

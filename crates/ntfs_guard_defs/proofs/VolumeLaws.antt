@@ -30,21 +30,21 @@ use Rattle.fault_defs.specs.declared.Refusal.TheVariants.{NotThis, Damaged, Unsu
 use Rattle.ntfs_volume_defs.specs.Boot.{is_boot_sector, is_one_of, is_total, sector_size, sectors_in_cluster, record_size_of, first_mft_cluster, clusters_of, boot_of, boot_at}
 use Rattle.ntfs_volume_defs.specs.Streams.{Stream, mapped, stream_place}
 use Rattle.ntfs_volume_defs.specs.Slots.{Mft, Slot, Empty, Unused, Used, slots, slot_of, first_slot_at}
-use Rattle.ntfs_volume_laws.proofs.SlotLaws.{slot_same}
+use Rattle.ntfs_guard_defs.proofs.SlotLaws.{slot_same}
 use Rattle.ntfs_volume_defs.specs.Segments.{Held, stream_of, segments_of}
 use Rattle.ntfs_volume_defs.specs.Lists.{Entry, ListContent, list_with, stream_list, list_by, list_content, entries_of, attributes_in, list_of, named_in, named_attribute, byte_ranges}
 use Rattle.ntfs_volume_defs.specs.Mft.{first_slot_alone, no_map, is_for_content, first_base, with_segment, with_segments, segment_in, next_segment, segments_behind, mft_entries, all_segments, known_mft, mft_with, mft_behind, mft_of}
 use Rattle.ntfs_volume_defs.specs.Files.{Assembled, FoundFile, with_entries, with_list, assembled_by, assembled, with_assembled, file_by, file_in, file_of, files_of}
-use Rattle.ntfs_volume_laws.proofs.HeldLaws.{HoldsContent, files_held}
-use Rattle.ntfs_volume_laws.proofs.MapLaws.{HasBoot, Extends, mapped_same, same_slots, alone_same, segment_boot, segments_boot, entry_gives, behind_boot, behind_extends, stream_same}
+use Rattle.ntfs_guard_defs.proofs.HeldLaws.{HoldsContent, files_held}
+use Rattle.ntfs_guard_defs.proofs.MapLaws.{HasBoot, Extends, mapped_same, same_slots, alone_same, segment_boot, segments_boot, entry_gives, behind_boot, behind_extends, stream_same}
 use Rattle.ntfs_volume_defs.specs.Guard.{is_content_place, is_list_byte, boot_sector, is_guarded}
-use Rattle.ntfs_volume_laws.proofs.GuardLaws.{Guarded, boot_guarded, list_guarded, slot_looks_guarded, list_looks, named_looks, files_look, looks_given_ok, in_first_file, lists_found}
+use Rattle.ntfs_guard_defs.proofs.GuardLaws.{Guarded, boot_guarded, list_guarded, slot_looks_guarded, list_looks, named_looks, files_look, looks_given_ok, in_first_file, lists_found}
 use Rattle.ntfs_volume_defs.specs.Volume.{FoundVolume, all_found, all_paths, piece_count, longest_path, within_limits, volume_with, volume_behind, volume_at, guard_of}
-use Rattle.ntfs_volume_laws.specs.VolumeLaws.{FootprintLaw}
+use Rattle.ntfs_guard_defs.specs.VolumeLaws.{FootprintLaw}
 
 -- ---- $MFT
 
-base_is : (boot : Boot) (slot : Slot) (base : FileRecord) → first_base boot slot ≡ Ok base → (slot ≡ Used base) × ((base.header.base == 0) ≡ true)
+pub base_is : (boot : Boot) (slot : Slot) (base : FileRecord) → first_base boot slot ≡ Ok base → (slot ≡ Used base) × ((base.header.base == 0) ≡ true)
 base_is boot Empty base gives = absurd cc
 base_is boot Unused base gives = absurd cc
 base_is boot (Used found) base gives = by_test (found.header.base == 0) refl gives
@@ -53,7 +53,7 @@ base_is boot (Used found) base gives = by_test (found.header.base == 0) refl giv
     by_test true is gives = let same : found ≡ base = cc in (ap Used same, ap (λ found. found.header.base == 0) (sym same) ∙ is)
     by_test false is gives = absurd cc
 
-known_is : (image : List ℕ) (boot : Boot) (known : Option Mft) (mft : Mft) → result_of image (known_mft boot known) ≡ Ok mft → known ≡ Some mft
+pub known_is : (image : List ℕ) (boot : Boot) (known : Option Mft) (mft : Mft) → result_of image (known_mft boot known) ≡ Ok mft → known ≡ Some mft
 known_is image boot None mft gives = absurd cc
 known_is image boot (Some found) mft gives =
     let few = check_gives image (nat_le (slots found) 4000000) (Limit Slots 4000000) (λ x. Done found) mft gives in
