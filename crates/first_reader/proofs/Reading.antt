@@ -8,6 +8,7 @@ use Rattle.std.proofs.lemmas.Bool.Decides.{Decides-eqb}
 use Rattle.std.proofs.lemmas.Grind.{div_ceil_times}
 use Rattle.std.proofs.lemmas.List.Elements.{All-weaker}
 use Rattle.range_defs.specs.declared.Range.{Range}
+use Rattle.range_defs.specs.declared.TheConstants.{LONGEST_IMAGE}
 use Rattle.range_defs.specs.Places.{EndsInReach}
 use Rattle.rx_ranges.specs.declared.pieces.Piece.{Piece}
 use Rattle.piece_defs.specs.Covering.{is_contiguous}
@@ -98,7 +99,7 @@ next_begins_anew superblock inode done more current after next block joined belo
     (subst Q (sym (begins ∙ is)) (joining_begins_anew superblock inode done current block joined below (ap (λ piece. is_contiguous current piece) (sym is) ∙ apart)))
 
 -- the slack lies in the image
-pub slack_in_reach : (size : ℕ) (superblock : Superblock) (inode : Inode) → size ≤ 70368744177664 → is_first_superblock superblock ≡ true → has_content size superblock inode ≡ true
+pub slack_in_reach : (size : ℕ) (superblock : Superblock) (inode : Inode) → size ≤ LONGEST_IMAGE → is_first_superblock superblock ≡ true → has_content size superblock inode ≡ true
     → All EndsInReach (content_slack superblock inode)
 slack_in_reach size superblock inode reach first content =
     All-weaker (λ (range : Range). range.at + range.len ≤ size) EndsInReach (λ range within. omega (arith, within, reach)) (content_slack superblock inode)

@@ -6,6 +6,7 @@ use Rattle.std.proofs.lemmas.Bool.Decides.{nat_tests}
 use Rattle.std.proofs.lemmas.List.Elements.{All-cons, All-nil}
 use Rattle.std.proofs.lemmas.Str.{IsUtf8-from_ascii}
 use Rattle.range_defs.specs.declared.Range.{Range}
+use Rattle.range_defs.specs.declared.TheConstants.{LONGEST_IMAGE}
 use Rattle.range_defs.specs.Places.{covers, IsRangeList, longest_ranges}
 use Rattle.range_defs.proofs.RangeLaws.{same_range_list, same_as_longest_ranges, ends_where_covered, covers-past}
 use Rattle.rx_ranges.specs.Path.{IsPath}
@@ -59,7 +60,7 @@ ok_map (Ok x) first second follows = follows x first second
 ok_map (Err e) first second follows = tt
 
 -- all that the tree says lies in the image
-pub tree_within : (size : ℕ) (files : List FileEntry) (guard : List Range) → size ≤ 70368744177664 → AreFilesWithin size files → AreRangesWithin size guard → IsWithin (tree_of size guard files)
+pub tree_within : (size : ℕ) (files : List FileEntry) (guard : List Range) → size ≤ LONGEST_IMAGE → AreFilesWithin size files → AreRangesWithin size guard → IsWithin (tree_of size guard files)
 tree_within size files guard reach within guarded = record {
   in_reach = reach;
   volumes = All-cons (λ volume. volume.at + volume.len ≤ size) (whole_volume size) [] (omega arith) (All-nil (λ volume. volume.at + volume.len ≤ size));

@@ -4,6 +4,7 @@ ghost use Rattle.piece_defs.specs.Covering.{is_contiguous as is_contiguous_by};
 ghost use Rattle.ufs_defs.specs.Blocks.{block_count, block_piece, content_pieces, content_slack, content_of as content_by};
 ghost use Rattle.volume_defs.specs.FirstForm.{is_first_superblock};
 ghost use Rattle.first_reader.specs.Content.{has_content};
+ghost use Rattle.range_defs.specs.declared.TheConstants.{LONGEST_IMAGE};
 
 use crate::form::{block_at, block_bytes};
 use range_defs::Range;
@@ -117,7 +118,7 @@ fn slack_of(
     superblock: &Superblock,
     inode: &Inode,
 ) -> Result<RangeList, NoMemory>
-    requires reach { size ≤ 70368744177664 }
+    requires reach { size ≤ LONGEST_IMAGE }
     requires first { is_first_superblock superblock.now ≡ true }
     requires content { has_content size superblock.now inode.now ≡ true }
     ensures { IfOk result (λ slack. slack ≡ content_slack superblock.now inode.now) }
@@ -134,7 +135,7 @@ pub(crate) fn content_of(
     superblock: &Superblock,
     inode: &Inode,
 ) -> Result<Part, NoMemory>
-    requires reach { size ≤ 70368744177664 }
+    requires reach { size ≤ LONGEST_IMAGE }
     requires first { is_first_superblock superblock.now ≡ true }
     requires content { has_content size superblock.now inode.now ≡ true }
     ensures { IfOk result (λ part. part ≡ content_by superblock.now inode.now) }

@@ -9,6 +9,7 @@ ghost use Rattle.ufs_defs.specs.Blocks.{block_place};
 ghost use Rattle.volume_defs.specs.FirstForm.{is_first_superblock, is_first_inode, is_first_root, is_first_entry, first_superblock, first_inode, first_root, first_file};
 ghost use Rattle.volume_defs.specs.FoundFiles.{IsFileOf, AreFilesOf};
 ghost use Rattle.first_reader.specs.Gives.{Gives, GivesItems, IsFirstCounted};
+ghost use Rattle.range_defs.specs.declared.TheConstants.{LONGEST_IMAGE};
 
 use crate::directory::Entry;
 use crate::fault::FirstReadFault;
@@ -117,7 +118,7 @@ fn read_file<S: Store>(
     number: u32,
 ) -> Result<FileEntry, FirstReadFault>
     requires size { size ≡ size_of Image (S.state store.old) }
-    requires reach { size ≤ 70368744177664 }
+    requires reach { size ≤ LONGEST_IMAGE }
     requires first { is_first_superblock superblock.now ≡ true }
     requires named { list_all is_first_entry entries.now ≡ true }
     ensures told { IfSome (told_image (S.state store.old)) (λ image. Gives result (result_of image (first_file size superblock.now entries.now number))) }
@@ -142,7 +143,7 @@ pub(crate) fn read_files<S: Store>(
     numbers: &[u32],
 ) -> Result<Vec<FileEntry>, FirstReadFault>
     requires size { size ≡ size_of Image (S.state store.old) }
-    requires reach { size ≤ 70368744177664 }
+    requires reach { size ≤ LONGEST_IMAGE }
     requires first { is_first_superblock superblock.now ≡ true }
     requires named { list_all is_first_entry entries.now ≡ true }
     ensures told { IfSome (told_image (S.state store.old)) (λ image. GivesItems result (result_of image (each (first_file size superblock.now entries.now) numbers.now))) }

@@ -11,6 +11,7 @@ ghost use Rattle.volume_defs.specs.FirstReader.{inode_range};
 ghost use Rattle.volume_defs.specs.FirstTree.{whole_volume, tree_of};
 ghost use Rattle.volume_defs.specs.FirstRanges.{first_ranges};
 ghost use Rattle.first_reader.specs.Content.{has_content};
+ghost use Rattle.range_defs.specs.declared.TheConstants.{LONGEST_IMAGE};
 
 use crate::content::content_of;
 use crate::directory::Entry;
@@ -63,7 +64,7 @@ fn root_entry(
     superblock: &Superblock,
     root: &Inode,
 ) -> Result<FileEntry, NoMemory>
-    requires reach { size ≤ 70368744177664 }
+    requires reach { size ≤ LONGEST_IMAGE }
     requires first { is_first_superblock superblock.now ≡ true }
     requires root { is_first_root size superblock.now root.now ≡ true }
     ensures { IfOk result (λ file. file ≡ root_file superblock.now root.now) }
@@ -81,7 +82,7 @@ pub(crate) fn named_entry(
     number: u32,
     inode: &Inode,
 ) -> Result<FileEntry, NoMemory>
-    requires reach { size ≤ 70368744177664 }
+    requires reach { size ≤ LONGEST_IMAGE }
     requires first { is_first_superblock superblock.now ≡ true }
     requires named { list_all is_first_entry entries.now ≡ true }
     requires content { has_content size superblock.now inode.now ≡ true }
@@ -101,7 +102,7 @@ fn guard_from(
     numbers: &[u32],
 ) -> Result<RangeList, NoMemory>
     requires long { 66912 ≤ size }
-    requires reach { size ≤ 70368744177664 }
+    requires reach { size ≤ LONGEST_IMAGE }
     requires first { is_first_superblock superblock.now ≡ true }
     requires has_root { is_first_inode size superblock.now 2 ≡ true }
     requires root { is_first_root size superblock.now root.now ≡ true }
@@ -194,7 +195,7 @@ pub(crate) fn files_from(
     entries: &[Entry<'_>],
     mut files: Vec<FileEntry>,
 ) -> Result<Files, NoMemory>
-    requires reach { size ≤ 70368744177664 }
+    requires reach { size ≤ LONGEST_IMAGE }
     requires first { is_first_superblock superblock.now ≡ true }
     requires root { is_first_root size superblock.now root.now ≡ true }
     requires named { list_all is_first_entry entries.now ≡ true }
@@ -230,7 +231,7 @@ pub(crate) fn tree_from(
     files: Files,
 ) -> Result<Tree, NoMemory>
     requires long { 66912 ≤ size }
-    requires reach { size ≤ 70368744177664 }
+    requires reach { size ≤ LONGEST_IMAGE }
     requires first { is_first_superblock superblock.now ≡ true }
     requires has_root { is_first_inode size superblock.now 2 ≡ true }
     requires root { is_first_root size superblock.now root.now ≡ true }

@@ -31,10 +31,11 @@ use Rattle.hfs_defs.proofs.ForkLaws.{byte_place-first, byte_place-behind, fork_l
 use Rattle.hfs_defs.specs.Leaves.{tree_file, leaves_of}
 use Rattle.hfs_defs.specs.Overflow.{overflow_records}
 use Rattle.hfs_defs.specs.TreeFiles.{look_of_kind, look_through, extents_at, catalog_at, tree_leaves, fork_leaves, volume_overflow}
+use Rattle.range_defs.specs.declared.TheConstants.{LONGEST_IMAGE}
 use Rattle.hfs_volume_defs.specs.Catalog.{Entry, catalog_entries}
 use Rattle.hfs_volume_defs.specs.Folders.{first_twice, has_folder, first_outside}
 use Rattle.hfs_volume_defs.specs.Files.{NamedEntry, named_entries, entry_file, special_files, special_file}
-use Rattle.hfs_volume_defs.specs.Volume.{volume_entries, refuse, sound_entries, all_names, names_within, most_names, most_path_bytes, most_runs, run_count, block_ranges, guard_ranges, guard_of, tree_with, files_within, volume_files, tree_below, volume_tree, longest_image, HfsFootprintLaw}
+use Rattle.hfs_volume_defs.specs.Volume.{volume_entries, refuse, sound_entries, all_names, names_within, most_names, most_path_bytes, most_runs, run_count, block_ranges, guard_ranges, guard_of, tree_with, files_within, volume_files, tree_below, volume_tree, HfsFootprintLaw}
 use Rattle.fault_defs.specs.declared.Refusal.{Refusal}
 use Rattle.fault_defs.specs.declared.Refusal.TheVariants.{NotThis, Damaged, Unsupported, Limit}
 use Rattle.fault_defs.specs.declared.Bound.TheVariants.{Image, Names, PathBytes, Runs}
@@ -315,9 +316,9 @@ unfolding volume_tree tree_below guard_of
 tree_found image at len volume tree gives =
     let size : ℕ = length image in
     let files_of : Header → List OverflowRecord → List Entry → Ask Refusal TreeValue = λ header overflow entries. volume_files volume header overflow entries >>= (λ files. Done (tree_with size volume header overflow files)) in
-    let first = bind_gives image (volume_header at len) (λ header. check (nat_le size longest_image) (Limit Image longest_image) >>= (λ short. tree_below size volume header)) tree gives in
+    let first = bind_gives image (volume_header at len) (λ header. check (nat_le size LONGEST_IMAGE) (Limit Image LONGEST_IMAGE) >>= (λ short. tree_below size volume header)) tree gives in
     let header : Header = first.0 in
-    let short = check_gives image (nat_le size longest_image) (Limit Image longest_image) (λ short. tree_below size volume header) tree first.2 in
+    let short = check_gives image (nat_le size LONGEST_IMAGE) (Limit Image LONGEST_IMAGE) (λ short. tree_below size volume header) tree first.2 in
     let second = bind_gives image (volume_overflow header) (λ overflow. volume_entries header overflow >>= (λ entries. files_of header overflow entries)) tree short.1 in
     let overflow : List OverflowRecord = second.0 in
     let third = bind_gives image (volume_entries header overflow) (λ entries. files_of header overflow entries) tree second.2 in
@@ -336,12 +337,12 @@ unfolding volume_tree
 tree_looks image size at len volume header overflow read found =
     let P : Range → Type 0 = IsCovered (guard_ranges header overflow) in
     let is = header_read image at len header read in
-    looks_bind P image (volume_header at len) (λ h. check (nat_le size longest_image) (Limit Image longest_image) >>= (λ short. tree_below size volume h))
+    looks_bind P image (volume_header at len) (λ h. check (nat_le size LONGEST_IMAGE) (Limit Image LONGEST_IMAGE) >>= (λ short. tree_below size volume h))
     (header_looks P image at len (header_guarded at 4 header overflow is.same_at (omega arith)) (header_guarded at 512 header overflow is.same_at (omega arith)))
     (λ h other.
-    let Q : Header → Type 0 = λ one. LooksAt P image (check (nat_le size longest_image) (Limit Image longest_image) >>= (λ short. tree_below size volume one)) in
+    let Q : Header → Type 0 = λ one. LooksAt P image (check (nat_le size LONGEST_IMAGE) (Limit Image LONGEST_IMAGE) >>= (λ short. tree_below size volume one)) in
     subst Q (same_value header h (sym read ∙ other))
-    (looks_check P image (nat_le size longest_image) (Limit Image longest_image) (λ short. tree_below size volume header)
+    (looks_check P image (nat_le size LONGEST_IMAGE) (Limit Image LONGEST_IMAGE) (λ short. tree_below size volume header)
     (λ short. below_looks image size volume header overflow is.some found)))
 
 -- images that agree on the longest ranges of the guard have the same bytes at each place of it

@@ -16,10 +16,11 @@ use Rattle.hfs_defs.specs.Damage.{IsDamage}
 use Rattle.hfs_defs.specs.Leaves.{Leaf}
 use Rattle.hfs_defs.specs.Overflow.{is_overflow_record, overflow_of, checked_overflow, each_leaf, overflow_records}
 use Rattle.hfs_defs.specs.TreeFiles.{extents_at, catalog_at, fork_leaves, volume_overflow}
+use Rattle.range_defs.specs.declared.TheConstants.{LONGEST_IMAGE}
 use Rattle.hfs_volume_defs.specs.Catalog.{Entry, RecordKind, FolderRecord, FileRecord, ThreadRecord, NoRecord, record_kind, is_some_kind, is_catalog_record, entry_by, checked_entry}
 use Rattle.hfs_volume_defs.specs.Folders.{listed, links_to, is_folder}
 use Rattle.hfs_volume_defs.specs.Files.{NamedEntry, named_entries, entry_file, special_files, special_file, entries_or_own}
-use Rattle.hfs_volume_defs.specs.Volume.{volume_entries, sound_entries, all_names, names_within, longest_image, most_names, most_path_bytes, most_runs, run_count, tree_with, files_within, volume_files, tree_below, volume_tree}
+use Rattle.hfs_volume_defs.specs.Volume.{volume_entries, sound_entries, all_names, names_within, most_names, most_path_bytes, most_runs, run_count, tree_with, files_within, volume_files, tree_below, volume_tree}
 use Rattle.hfs_defs.specs.HeaderDamage.{HasMagic, IsFalseInHeader}
 use Rattle.hfs_volume_defs.specs.Damage.{IsFalseInFile, IsFalseInEntries, IsFalseInFiles, HasHeader, HasOverflow, HasEntries, IsFalseAt, InHeader, InExtents, InCatalog, InEntries, InFiles, MoreExtents, IsOver, LongImage, DeepName, LongName, IsDeep, IsNameOf, counted_from, ManyNames, LongNames, ManyRuns, IsWrong, HfsDamageLaw}
 use Rattle.hfs_defs.proofs.HeaderDamage.{header_law}
@@ -227,17 +228,17 @@ volume_refused image at len volume fault magic is =
     ⊎_elim
     (λ first. damage_wrong (IsFalseInHeader image at len) image at len volume fault (λ sort place false'. InHeader sort place magic false') (⊎_elim (λ other. absurd (other.1 magic)) (λ damage. damage.1) ((header_law image at len).refuses fault first)))
     (λ header. ⊎_elim
-    (λ over. subst (IsWrong image at len volume) over.1 (LongImage (leb-false (length image) longest_image over.0)))
+    (λ over. subst (IsWrong image at len volume) over.1 (LongImage (leb-false (length image) LONGEST_IMAGE over.0)))
     (λ short. below_refused image (length image) at len volume header.0 fault header.1 short.1)
-    (check_refuses image (nat_le (length image) longest_image) (Limit Image longest_image) (λ short. tree_below (length image) volume header.0) fault header.2))
-    (bind_refuses image (volume_header at len) (λ header. check (nat_le (length image) longest_image) (Limit Image longest_image) >>= (λ short. tree_below (length image) volume header)) fault is)
+    (check_refuses image (nat_le (length image) LONGEST_IMAGE) (Limit Image LONGEST_IMAGE) (λ short. tree_below (length image) volume header.0) fault header.2))
+    (bind_refuses image (volume_header at len) (λ header. check (nat_le (length image) LONGEST_IMAGE) (Limit Image LONGEST_IMAGE) >>= (λ short. tree_below (length image) volume header)) fault is)
 
 -- ---- a volume that has a tree
 
 record IsAccepted (image : List ℕ) (at len volume : ℕ) : Type 0 where
   header : Header
   has : HasHeader image at len header
-  short : length image ≤ longest_image
+  short : length image ≤ LONGEST_IMAGE
   overflow : List OverflowRecord
   read : result_of image (volume_overflow header) ≡ Ok overflow
   entries : List Entry
@@ -257,10 +258,10 @@ accepted : (image : List ℕ) (at len volume : ℕ) (tree : TreeValue) → resul
 unfolding volume_tree tree_below volume_files names_within files_within
 accepted image at len volume tree is =
     let size : ℕ = length image in
-    let header = bind_gives image (volume_header at len) (λ header. check (nat_le size longest_image) (Limit Image longest_image) >>= (λ short. tree_below size volume header)) tree is in
+    let header = bind_gives image (volume_header at len) (λ header. check (nat_le size LONGEST_IMAGE) (Limit Image LONGEST_IMAGE) >>= (λ short. tree_below size volume header)) tree is in
     let h : Header = header.0 in
     let done : List OverflowRecord → List FileEntry → Ask Refusal TreeValue = λ overflow files. Done (tree_with size volume h overflow files) in
-    let short = check_gives image (nat_le size longest_image) (Limit Image longest_image) (λ short. tree_below size volume h) tree header.2 in
+    let short = check_gives image (nat_le size LONGEST_IMAGE) (Limit Image LONGEST_IMAGE) (λ short. tree_below size volume h) tree header.2 in
     let overflow = bind_gives image (volume_overflow h) (λ overflow. volume_entries h overflow >>= (λ entries. volume_files volume h overflow entries >>= done overflow)) tree short.1 in
     let o : List OverflowRecord = overflow.0 in
     let entries = bind_gives image (volume_entries h o) (λ entries. volume_files volume h o entries >>= done o) tree overflow.2 in
@@ -277,7 +278,7 @@ accepted image at len volume tree is =
     record {
       header = h;
       has = header.1;
-      short = leb-true size longest_image short.0;
+      short = leb-true size LONGEST_IMAGE short.0;
       overflow = o;
       read = overflow.1;
       entries = entries.0;
@@ -373,7 +374,7 @@ module _ (image : List ℕ) (at len volume : ℕ) (ok : IsAccepted image at len 
 not_this : (image : List ℕ) (at len volume : ℕ) → (HasMagic image at len → ⊥) → result_of image (volume_tree (length image) at len volume) ≡ Err NotThis
 unfolding volume_tree
 not_this image at len volume none =
-    result_bind_err image (volume_header at len) (λ header. check (nat_le (length image) longest_image) (Limit Image longest_image) >>= (λ short. tree_below (length image) volume header)) NotThis ((header_law image at len).other none)
+    result_bind_err image (volume_header at len) (λ header. check (nat_le (length image) LONGEST_IMAGE) (Limit Image LONGEST_IMAGE) >>= (λ short. tree_below (length image) volume header)) NotThis ((header_law image at len).other none)
 
 pub hfs_damage_law : HfsDamageLaw
 hfs_damage_law image at len volume = record {

@@ -17,10 +17,11 @@ use Rattle.hfs_defs.specs.Leaves.{Leaf, LeafList, tree_file}
 use Rattle.hfs_defs.specs.Chain.{IsFalseInTree}
 use Rattle.hfs_defs.specs.Overflow.{is_overflow_record}
 use Rattle.hfs_defs.specs.TreeFiles.{extents_at, catalog_at, fork_leaves, volume_overflow}
+use Rattle.range_defs.specs.declared.TheConstants.{LONGEST_IMAGE}
 use Rattle.hfs_volume_defs.specs.Catalog.{Entry, FileInfo, is_catalog_record}
 use Rattle.hfs_volume_defs.specs.Folders.{is_special_number, has_id, has_folder, is_in_folder, links_to, listed, is_empty_fork, is_folder, parent_of, name_of, folder_of, root_path, deepest, longest_path}
 use Rattle.hfs_volume_defs.specs.Files.{NamedEntry, entries_or_own, named_entries, entry_file, SpecialFile, special_files, special_file}
-use Rattle.hfs_volume_defs.specs.Volume.{volume_entries, longest_image, most_names, most_path_bytes, most_runs, all_names, run_count, volume_tree}
+use Rattle.hfs_volume_defs.specs.Volume.{volume_entries, most_names, most_path_bytes, most_runs, all_names, run_count, volume_tree}
 use Rattle.fault_defs.specs.declared.Bound.{Bound}
 use Rattle.fault_defs.specs.declared.Bound.TheVariants.{Image, Names, PathBytes, Path, Depth, Runs}
 use Rattle.fault_defs.specs.declared.Refusal.{Refusal}
@@ -115,7 +116,7 @@ IsNameOf false entries entry path = (n : ℕ) × ((parent : List ℕ) × IsPathO
 -- what there is more of than its limit: bytes of the image; folders above a name, or bytes of its path; names, and bytes of
 -- all of them; pieces of all files
 pub data IsOver (image : List ℕ) (at len volume : ℕ) : Bound → ℕ → Type 0 where
-  LongImage : longest_image < length image → IsOver image at len volume Image longest_image
+  LongImage : LONGEST_IMAGE < length image → IsOver image at len volume Image LONGEST_IMAGE
   DeepName : (header : Header) (overflow : List OverflowRecord) (entries front : List Entry) (entry : Entry) (behind others : List Entry) (one : Entry) (more : List Entry)
       → HasEntries image at len header overflow entries → listed entries ≡ front ++ entry ∷ behind → entries_or_own (links_to entries entry.id) entry ≡ others ++ one ∷ more
       → IsDeep entries (counted_from (is_folder one) one) → IsOver image at len volume Depth deepest

@@ -2,6 +2,7 @@
 use Rattle.std.specs.Prelude.{◌≡◌, ℕ, ◌+◌, ◌-◌, nat_le, Option, Some, None, Ok, List, [], ◌∷◌, ◌++◌, length, map}
 use Rattle.std.specs.List.{flat_map, sum_by}
 use Rattle.range_defs.specs.declared.Range.{Range}
+use Rattle.range_defs.specs.declared.TheConstants.{LONGEST_IMAGE}
 use Rattle.range_defs.specs.Places.{covers, longest_ranges}
 use Rattle.image_defs.specs.Ask.{Ask, Done, Stop, result_of, check, given, ◌>>=◌, ◌>>◌}
 use Rattle.image_defs.specs.Agreement.{AgreeOn}
@@ -46,9 +47,6 @@ sound_entries header entries = do
   refuse FolderMissing (first_outside entries entries)
 
 -- ---- limits
-
-abbrev pub longest_image : ℕ
-longest_image = 70368744177664
 
 abbrev pub most_names : ℕ
 most_names = 1000000
@@ -127,7 +125,7 @@ tree_below size volume header = do
 unfoldable pub volume_tree : ℕ → ℕ → ℕ → ℕ → Ask Refusal TreeValue
 volume_tree size at len volume = do
   header ← volume_header at len
-  check (nat_le size longest_image) (Limit Image longest_image)
+  check (nat_le size LONGEST_IMAGE) (Limit Image LONGEST_IMAGE)
   tree_below size volume header
 
 -- the law of the footprint: an image that has the same length and the same bytes in the guard has the same tree

@@ -1,3 +1,4 @@
 pub mod Hull
 pub mod Path
+pub mod PlanChecks
 pub mod Laying

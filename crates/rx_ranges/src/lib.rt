@@ -22,7 +22,9 @@ mod text;
 pub use fills::FillMap;
 pub use items::Items;
 pub use pieces::{Piece, PieceKind, Pieces};
-pub use plan::{ListKind, Listed, Listing, Plan};
+pub use plan::{
+    ListKind, Listed, Listing, MAX_LISTED, MAX_LISTING_BYTES, MAX_RANGES, MAX_RULE, Plan,
+};
 pub use range_defs::{Claim, Range};
 pub use ranges::RangeList;
 pub use text::{MAX_PATH, NoMemory, Text};

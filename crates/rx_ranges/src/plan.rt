@@ -3,6 +3,18 @@ use crate::fills::FillMap;
 use crate::items::Items;
 use crate::text::Text;
 
+/// The greatest number of a rule.
+pub const MAX_RULE: u32 = 1_000;
+
+/// The most ranges that a plan may have.
+pub const MAX_RANGES: usize = 1_000_000;
+
+/// The most lines that a listing may have.
+pub const MAX_LISTED: usize = 1_000_000;
+
+/// The most bytes that a listing may have in a journal: for each line 7, and those of its path.
+pub const MAX_LISTING_BYTES: u64 = 1_080_741_824;
+
 /// Why a file is listed.
 #[derive(Clone, Copy, Debug, PartialEq, Eq)]
 pub enum ListKind {

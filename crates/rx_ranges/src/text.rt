@@ -1,5 +1,6 @@
 //! Printed text.
 ghost use Rattle.std.specs.Prelude.{◌≡◌, IfOk, string_bytes};
+ghost use Rattle.std.specs.Str.{IsUtf8};
 
 use std::alloc::{AllocError, Global};
 use std::marker::Model;
@@ -18,10 +19,13 @@ pub struct Text {
 
 impl Model for Text {
     ghost use Rattle.std.specs.Prelude.{List, ℕ, string_bytes};
+    ghost use Rattle.std.specs.Str.{IsUtf8};
 
     ghost Value = { List ℕ };
 
     ghost view = { λ t. string_bytes t.text };
+
+    ghost invariant = { λ t. IsUtf8 (string_bytes t.text) };
 }
 
 impl Text {
@@ -43,7 +47,8 @@ impl Text {
 
     /// The text itself.
     pub fn as_str(&self) -> &str
-        ensures { result.now ≡ self.now }
+        ensures text { result.now ≡ self.now }
+        ensures utf8 { IsUtf8 self.now }
     {
         self.text.as_str()
     }

@@ -1,6 +1,7 @@
 -- What a tree says lies inside its image.
 use Rattle.std.specs.Prelude.{ℕ, ◌+◌, ◌≤◌, All, List}
 use Rattle.range_defs.specs.declared.Range.{Range}
+use Rattle.range_defs.specs.declared.TheConstants.{LONGEST_IMAGE}
 use Rattle.rx_ranges.specs.declared.pieces.Piece.{Piece}
 use Rattle.piece_defs.specs.Places.{AreWithin}
 use Rattle.rx_tree.specs.PartValue.{PartValue}
@@ -27,7 +28,7 @@ AreVolumesWithin len = All (λ volume. volume.at + volume.len ≤ len)
 
 -- a tree's image has at most 2^46 bytes, and all that the tree says lies in it
 pub record IsWithin (tree : TreeValue) : Type 0 where
-  pub in_reach : tree.image_len ≤ 70368744177664
+  pub in_reach : tree.image_len ≤ LONGEST_IMAGE
   pub volumes : AreVolumesWithin tree.image_len tree.volumes
   pub unread : AreRangesWithin tree.image_len tree.unread
   pub files : AreFilesWithin tree.image_len tree.files

@@ -6,6 +6,7 @@ use Rattle.std.proofs.Common.{sym, subst, arith}
 use Rattle.std.proofs.lemmas.Bool.{leb-true}
 use Rattle.std.proofs.lemmas.List.Elements.{All-cons, All-nil}
 use Rattle.range_defs.specs.Places.{covers}
+use Rattle.range_defs.specs.declared.TheConstants.{LONGEST_IMAGE}
 use Rattle.bytes_defs.specs.Bytes.{part}
 use Rattle.image_defs.specs.Ask.{Done, result_of, visits, each}
 use Rattle.range_defs.proofs.RangeLaws.{longest_ranges_ends}
@@ -116,10 +117,10 @@ first_files_give image size files gives =
     below_gives image size superblock.0 files long.0 (superblock_gives image superblock.0 superblock.1) superblock.2
 
 -- the length of the image
-pub first_length_in_reach : (size : ℕ) → is_first_length size ≡ true → (66912 ≤ size) × (size ≤ 70368744177664)
+pub first_length_in_reach : (size : ℕ) → is_first_length size ≡ true → (66912 ≤ size) × (size ≤ LONGEST_IMAGE)
 first_length_in_reach size long =
-    let both = both_hold (nat_le 66912 size) (nat_le size 70368744177664) long in
-    (leb-true 66912 size both.0, leb-true size 70368744177664 both.1)
+    let both = both_hold (nat_le 66912 size) (nat_le size LONGEST_IMAGE) long in
+    (leb-true 66912 size both.0, leb-true size LONGEST_IMAGE both.1)
 
 -- the tree lies in its image
 pub first_tree_within : (image : List ℕ) (files : List FileEntry) → result_of image (first_files (length image)) ≡ Ok files → IsWithin (tree_of (length image) (guard_of image) files)

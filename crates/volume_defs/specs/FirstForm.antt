@@ -18,6 +18,7 @@ use Rattle.ufs_defs.specs.declared.superblock.Superblock.{Superblock}
 use Rattle.ufs_defs.specs.declared.inode.Inode.{Inode}
 use Rattle.volume_defs.specs.Kind.{kind_of}
 use Rattle.order_defs.specs.Sorted.{sorted_names, rising_numbers}
+use Rattle.range_defs.specs.declared.TheConstants.{LONGEST_IMAGE}
 
 -- an image that hasn't the first form says nothing
 pub data FirstFault : Type 0 where
@@ -29,7 +30,7 @@ demand test = check test NotFirstForm
 
 -- the image has at most 2^46 bytes, and the magic of a UFS2 has place in it
 abbrev pub is_first_length : ℕ → Bool
-is_first_length size = nat_le 66912 size && nat_le size 70368744177664
+is_first_length size = nat_le 66912 size && nat_le size LONGEST_IMAGE
 
 -- the image is a UFS2
 abbrev pub is_first_kind : Option FsKind → Bool

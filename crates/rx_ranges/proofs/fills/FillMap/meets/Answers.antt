@@ -1,4 +1,4 @@
-use Rattle.std.proofs.Common.{◌&&◌, List, is_some, nat_lt, false, subst, ap, arith, true}
+use Rattle.std.proofs.Common.{◌&&◌, List, is_some, nat_lt, false, subst, ap, arith}
 use Rattle.range_defs.specs.declared.Claim.{Claim}
 use Rattle.range_defs.specs.AnyByte.{TellsIfAny}
 use Rattle.range_defs.specs.Claims.{painted}
