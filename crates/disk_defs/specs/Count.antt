@@ -29,10 +29,6 @@ pub record Faults : Type 0 where
 abbrev pub no_faults : Faults
 no_faults = record { image = 0; journal = 0 }
 
--- the faults on both areas
-abbrev pub all_faults : Faults → ℕ
-all_faults faults = min (faults.image + faults.journal) 18446744073709551615
-
 -- the counts after one more fault on an area
 abbrev pub one_more_in : Area → Faults → Faults
 one_more_in Image faults = record faults { image = one_more faults.image }
@@ -54,3 +50,22 @@ FailedIn Journal before now = (before.journal ≤ now.journal) × Rose before.jo
 abbrev pub IsCountedIn : {T E : Type 0} → Area → Result T E → Faults → Faults → Type 0
 IsCountedIn area (Ok answer) before now = now ≡ before
 IsCountedIn area (Err error) before now = FailedIn area before now
+
+-- a call on both areas failed
+abbrev pub FailedInBoth : Faults → Faults → Type 0
+FailedInBoth before now =
+    (before.image ≤ now.image) × Rose before.image now.image × (before.journal ≤ now.journal) × Rose before.journal now.journal
+
+-- the counts after one more fault on both areas
+abbrev pub one_more_in_both : Faults → Faults
+one_more_in_both faults = record { image = one_more faults.image; journal = one_more faults.journal }
+
+-- the counts after a call on both areas with this result
+abbrev pub faults_after_in_both : {T E : Type 0} → Result T E → Faults → Faults
+faults_after_in_both (Ok answer) faults = faults
+faults_after_in_both (Err error) faults = one_more_in_both faults
+
+-- The counts of a store before and after a call on both areas, a sync, with this result: a fault of it is one of each area.
+abbrev pub IsCountedInBoth : {T E : Type 0} → Result T E → Faults → Faults → Type 0
+IsCountedInBoth (Ok answer) before now = now ≡ before
+IsCountedInBoth (Err error) before now = FailedInBoth before now

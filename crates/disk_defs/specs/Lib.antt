@@ -1,3 +1,4 @@
+pub mod Story
 pub mod Disk
 pub mod Count
 pub mod Stream

@@ -1,5 +1,5 @@
 -- A store over files: what contracts see of it.
-use Rattle.std.specs.Prelude.{◌≡◌, ℕ, min, Bool, true, false, Option, None, Some, is_none, IsTrue}
+use Rattle.std.specs.Prelude.{◌≡◌, ℕ, min, Bool, true, false, ◌&&◌, not, None, is_none, IsTrue}
 use Rattle.std.proofs.Common.{arith}
 use Rattle.disk_defs.specs.Count.{Faults}
 use Rattle.disk_defs.specs.Disk.{State, SizesFit, TellsItsSizes}
@@ -9,7 +9,7 @@ use Rattle.rx_store.specs.Outside.{Calls}
 use Rattle.rx_store.specs.declared.file_store.Opened.{Opened}
 use Rattle.rx_store.specs.declared.file_store.Opened.TheVariants.{Absent, Failed, Open}
 
--- the file of an area: the size that was found, whether there is no file, and whether it couldn't be opened or measured
+-- the file of an area: the size that it has, whether there is no file, and whether it couldn't be opened or measured
 pub record AreaFile : Type 0 where
   pub size : ℕ
   pub is_absent : Bool
@@ -21,15 +21,9 @@ pub record StoreOfFiles : Type 0 where
   pub journal : AreaFile
   pub faults : Faults
 
--- what is seen of an area over this file, with the size that was found, or of one that isn't there
-abbrev pub area_file : {D : Type 0} → Option (Calls D) → ℕ → AreaFile
-area_file None size = record { size = size; is_absent = true; has_failed = false }
-area_file (Some calls) size = record { size = size; is_absent = false; has_failed = is_none calls.device }
-
--- how many calls on the file of an area failed
-abbrev pub faults_on : {D : Type 0} → Option (Calls D) → ℕ
-faults_on None = 0
-faults_on (Some calls) = calls.faults
+-- what is seen of an area over this file, or of one that isn't there, with the size that it has
+abbrev pub area_file : {D : Type 0} → Bool → Calls D → ℕ → AreaFile
+area_file is_absent calls size = record { size = size; is_absent = is_absent; has_failed = not is_absent && is_none calls.device }
 
 -- what is found of a file when it is measured: an open one may fail then
 abbrev pub IsMeasured : Opened → AreaFile → Type 0

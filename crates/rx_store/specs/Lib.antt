@@ -1,4 +1,5 @@
 pub mod Answers
+pub mod Changes
 pub mod Files
 pub mod Outside
 pub mod ReadFaults

@@ -1,6 +1,6 @@
 //! Counts of the faults of a store.
 ghost use Rattle.std.specs.Prelude.{◌≡◌};
-ghost use Rattle.disk_defs.specs.Count.{FailedIn, IsCountedIn, all_faults, faults_after_in, no_faults, one_more_in};
+ghost use Rattle.disk_defs.specs.Count.{FailedIn, FailedInBoth, IsCountedIn, faults_after_in, no_faults, one_more_in, one_more_in_both};
 
 use disk_defs::{Area, Fault};
 use std::marker::Model;
@@ -30,13 +30,6 @@ impl FaultCounts {
         }
     }
 
-    /// How many calls failed in all.
-    pub(crate) fn all(&self) -> u64
-        ensures { result ≡ all_faults self.now }
-    {
-        self.image.saturating_add(self.journal)
-    }
-
     /// Counts a fault on an area.
     pub(crate) fn add(&mut self, area: Area)
         ensures faults { self.new ≡ one_more_in area self.old }
@@ -46,6 +39,15 @@ impl FaultCounts {
             Area::Image => self.image = self.image.saturating_add(1),
             Area::Journal => self.journal = self.journal.saturating_add(1),
         }
+    }
+
+    /// Counts a fault on both areas.
+    pub(crate) fn add_both(&mut self)
+        ensures faults { self.new ≡ one_more_in_both self.old }
+        ensures failed { FailedInBoth self.old self.new }
+    {
+        self.image = self.image.saturating_add(1);
+        self.journal = self.journal.saturating_add(1);
     }
 
     /// Counts a fault on an area where there is one.

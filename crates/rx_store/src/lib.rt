@@ -8,6 +8,8 @@
 //!     store.fail_at(vec![in alloc; 3]?);      // its third call fails
 #![tactic(auto)]
 
+mod append;
+mod changes;
 mod fault_counts;
 mod file_store;
 mod mem_sink;

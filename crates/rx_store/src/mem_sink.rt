@@ -5,6 +5,7 @@ ghost use Rattle.disk_defs.specs.Count.{IsCounted, faults_after};
 ghost use Rattle.disk_defs.specs.Memory.{sink_with_room};
 
 use crate::NoMemory;
+use crate::append::append;
 use crate::sink::Sink;
 use disk_defs::Fault;
 use std::alloc::Global;
@@ -47,16 +48,6 @@ impl MemSink {
     {
         self.bytes.as_slice()
     }
-}
-
-/// Appends bytes for which there is room.
-fn append(bytes: &mut Vec<u8>, piece: &[u8])
-    requires { vec_len bytes.old + length piece.now ≤ vec_capacity bytes.old }
-    ensures items { bytes.new.items ≡ bytes.old.items ++ piece.now }
-    ensures len { vec_len bytes.new ≡ vec_len bytes.old + length piece.now }
-    ensures capacity { vec_capacity bytes.old ≤ vec_capacity bytes.new }
-{
-    bytes.extend_from_slice(piece).unwrap();
 }
 
 impl Sink for MemSink {

@@ -1,11 +1,15 @@
 //! A store in memory, whose calls fail where they are told to.
-ghost use Rattle.std.specs.Prelude.{◌≡◌, ◌+◌, ◌≤◌, [], length, vec_len, IfOk, OnOk, OnErr, IsErr, Contains};
-ghost use Rattle.disk_defs.specs.Disk.{size_of, ReadsFrom};
-ghost use Rattle.disk_defs.specs.Count.{IsCountedIn, all_faults, faults_after_in, no_faults, one_more};
-ghost use Rattle.disk_defs.specs.Memory.{state_in_memory};
+ghost use Rattle.std.specs.Prelude.{◌≡◌, ◌+◌, ◌≤◌, [], false, length, max, min, vec_len, vec_capacity, IfOk, OnOk, OnErr, IsErr, Contains};
+ghost use Rattle.disk_defs.specs.Disk.{size_of, state_after, IsAfterFailed, MayWrite, ReadsFrom};
+ghost use Rattle.disk_defs.specs.Story.{Write, Cut, Sync, changed};
+ghost use Rattle.disk_defs.specs.Count.{FailedIn, FailedInBoth, IsCountedIn, IsCountedInBoth, faults_after, faults_after_in, faults_after_in_both, no_faults, one_more, one_more_in, one_more_in_both};
+ghost use Rattle.disk_defs.specs.Memory.{IsRefused, has_room, held_in_memory, room_after, state_in_memory};
 ghost use Rattle.bytes_defs.specs.Bytes.{part};
+ghost use Rattle.rx_store.specs.Changes.{FitsIn, IsHeldAs, held_of};
 
 use crate::NoMemory;
+use crate::append::{overwrite, write_from};
+use crate::changes::Changes;
 use crate::fault_counts::FaultCounts;
 use crate::store::Store;
 use disk_defs::{Area, Fault};
@@ -17,6 +21,7 @@ use std::marker::Model;
 struct Calls {
     made: u64,
     failing: Vec<u64>,
+    failed: u64,
     faults: FaultCounts,
 }
 
@@ -25,79 +30,158 @@ impl Calls {
     fn begin(&mut self, area: Area) -> Result<(), Fault>
         ensures fails { Contains self.old.failing.items (one_more self.old.made) → IsErr result }
         ensures only_named { OnErr result (Contains self.old.failing.items (one_more self.old.made)) }
-        ensures failing { self.new.failing.items ≡ self.old.failing.items }
-        ensures made { self.new.made ≡ one_more self.old.made }
-        ensures faults { self.new.faults ≡ faults_after_in area result self.old.faults }
+        ensures calls { self.new ≡ record self.old {
+          made = one_more self.old.made;
+          failed = faults_after result self.old.failed;
+          faults = faults_after_in area result self.old.faults;
+        } }
         ensures counted { IsCountedIn area result self.old.faults self.new.faults }
     {
         self.made = self.made.saturating_add(1);
         if self.failing.contains(&self.made) {
-            self.faults.add(area);
-            return Err(Fault);
+            return Err(self.fail(area));
         }
         Ok(())
     }
+
+    /// Counts a change of an area, and lets it fail where its number was named or there is no room for it.
+    fn begin_change(&mut self, area: Area, has_room: bool) -> Result<(), Fault>
+        ensures fails { Contains self.old.failing.items (one_more self.old.made) → IsErr result }
+        ensures full { has_room ≡ false → IsErr result }
+        ensures only { OnErr result (IsRefused self.old.failing.items (one_more self.old.made) has_room) }
+        ensures calls { self.new ≡ record self.old {
+          made = one_more self.old.made;
+          failed = faults_after result self.old.failed;
+          faults = faults_after_in area result self.old.faults;
+        } }
+        ensures counted { IsCountedIn area result self.old.faults self.new.faults }
+    {
+        self.begin(area)?;
+        if !has_room {
+            return Err(self.fail(area));
+        }
+        Ok(())
+    }
+
+    /// Counts a sync, and lets it fail where its number was named or there is no room for it.
+    fn begin_sync(&mut self, has_room: bool) -> Result<(), Fault>
+        ensures fails { Contains self.old.failing.items (one_more self.old.made) → IsErr result }
+        ensures full { has_room ≡ false → IsErr result }
+        ensures only { OnErr result (IsRefused self.old.failing.items (one_more self.old.made) has_room) }
+        ensures calls { self.new ≡ record self.old {
+          made = one_more self.old.made;
+          failed = faults_after result self.old.failed;
+          faults = faults_after_in_both result self.old.faults;
+        } }
+        ensures counted { IsCountedInBoth result self.old.faults self.new.faults }
+    {
+        self.made = self.made.saturating_add(1);
+        if self.failing.contains(&self.made) {
+            return Err(self.fail_both());
+        }
+        if !has_room {
+            return Err(self.fail_both());
+        }
+        Ok(())
+    }
+
+    /// Counts a fault on an area.
+    fn fail(&mut self, area: Area) -> Fault
+        ensures calls { self.new ≡ record self.old { failed = one_more self.old.failed; faults = one_more_in area self.old.faults } }
+        ensures counted { FailedIn area self.old.faults self.new.faults }
+    {
+        self.failed = self.failed.saturating_add(1);
+        self.faults.add(area);
+        Fault
+    }
+
+    /// Counts a fault on both areas.
+    fn fail_both(&mut self) -> Fault
+        ensures calls { self.new ≡ record self.old { failed = one_more self.old.failed; faults = one_more_in_both self.old.faults } }
+        ensures counted { FailedInBoth self.old.faults self.new.faults }
+    {
+        self.failed = self.failed.saturating_add(1);
+        self.faults.add_both();
+        Fault
+    }
 }
 
-/// A store in memory. It tells what it holds.
+/// A store in memory. It tells all that was done to it.
 #[derive(Drop)]
 pub struct MemStore {
     image: Vec<u8>,
     journal: Vec<u8>,
+    room: usize,
+    changes: Changes,
     calls: Calls,
+    ghost kept: { IsHeldAs changes.story image journal },
 }
 
 impl Model for MemStore {
+    ghost use Rattle.std.specs.Prelude.{◌≤◌, vec_len, vec_capacity};
     ghost use Rattle.disk_defs.specs.Memory.{StoreInMemory};
-    ghost use Rattle.rx_store.specs.Vecs.{length_fits};
+    ghost use Rattle.rx_store.specs.Changes.{fits_in_memory};
 
     ghost Value = { StoreInMemory };
 
     ghost view = { λ store. record {
-      held = record { image = store.image.items; journal = store.journal.items };
-      fits = (length_fits store.image, length_fits store.journal);
+      story = store.changes.story;
+      fits = fits_in_memory store.changes.story store.image store.journal store.kept;
+      room = record { journal = store.room; changes = store.changes.changes; bytes = store.changes.bytes };
       failing = store.calls.failing.items;
       calls = store.calls.made;
+      failed = store.calls.failed;
       faults = store.calls.faults;
     } };
+
+    ghost invariant = { λ store. (vec_len store.journal ≤ store.room) × (store.room ≤ vec_capacity store.journal) };
 }
 
 impl MemStore {
-    /// A store that holds these bytes, of whose calls none fails. Room for a journal of `room` bytes is taken here.
-    /// The record of changes, for which `changes` and `log` say how much room it has, comes with the first call
-    /// that changes what a store holds.
+    /// A store that holds these bytes, of whose calls none fails. Room for a journal of `room` bytes is taken here, and for a
+    /// record of `changes` changes that write `log` bytes in all: no later call takes memory, and a change for which there is no
+    /// room fails.
     pub fn new(
         alloc: Global,
         image: Vec<u8>,
         mut journal: Vec<u8>,
         room: u64,
-        _changes: u64,
-        _log: u64,
+        changes: u64,
+        log: u64,
     ) -> Result<MemStore, NoMemory>
         requires { vec_len journal ≤ room }
-        ensures image { IfOk result (λ store. store.held.image ≡ image.items) }
-        ensures journal { IfOk result (λ store. store.held.journal ≡ journal.items) }
+        ensures held { IfOk result (λ store. held_in_memory store ≡ record { image = image.items; journal = journal.items }) }
+        ensures events { IfOk result (λ store. store.story.events ≡ []) }
+        ensures room { IfOk result (λ store. store.room ≡ record { journal = room; changes = changes; bytes = log }) }
         ensures failing { IfOk result (λ store. store.failing ≡ []) }
         ensures calls { IfOk result (λ store. store.calls ≡ 0) }
+        ensures failed { IfOk result (λ store. store.failed ≡ 0) }
         ensures faults { IfOk result (λ store. store.faults ≡ no_faults) }
     {
+        let first = Changes::new(alloc, &image, &journal, changes as usize, log as usize)?;
         journal.reserve(room as usize - journal.len())?;
         Ok(MemStore {
             image,
             journal,
+            room: room as usize,
+            changes: first,
             calls: Calls {
                 made: 0,
                 failing: Vec::new(alloc),
+                failed: 0,
                 faults: FaultCounts::new(),
             },
         })
     }
 
-    /// Lets the calls of the store with these numbers fail, counted from 1 over all of its calls, and no others.
+    /// Lets the calls of the store with these numbers fail, counted from 1 over all of its calls, and no others but those for
+    /// which there is no room. A change that fails so changes nothing.
     pub fn fail_at(&mut self, calls: Vec<u64>)
         ensures failing { self.new.failing ≡ calls.items }
-        ensures held { self.new.held ≡ self.old.held }
+        ensures story { self.new.story ≡ self.old.story }
+        ensures room { self.new.room ≡ self.old.room }
         ensures calls { self.new.calls ≡ self.old.calls }
+        ensures failed { self.new.failed ≡ self.old.failed }
         ensures faults { self.new.faults ≡ self.old.faults }
     {
         self.calls.failing = calls;
@@ -105,16 +189,36 @@ impl MemStore {
 
     /// What the image holds.
     pub fn image(&self) -> &[u8]
-        ensures { result.now ≡ self.now.held.image }
+        ensures { result.now ≡ (held_in_memory self.now).image }
     {
         self.image.as_slice()
     }
 
+    /// What the journal holds.
+    pub fn journal(&self) -> &[u8]
+        ensures { result.now ≡ (held_in_memory self.now).journal }
+    {
+        self.journal.as_slice()
+    }
+
     /// How many calls have failed.
     pub fn faults(&self) -> u64
-        ensures { result ≡ all_faults self.now.faults }
+        ensures { result ≡ self.now.failed }
     {
-        self.calls.faults.all()
+        self.calls.failed
+    }
+
+    /// Whether there is room for a write.
+    fn has_room(&self, area: Area, at: u64, bytes: &[u8]) -> bool
+        ensures { result ≡ has_room (Write area at bytes.now) self.now.room }
+    {
+        let recorded = self.changes.left() > 0 && bytes.len() <= self.changes.bytes_left();
+        match area {
+            Area::Image => recorded,
+            Area::Journal => {
+                recorded && at <= self.room as u64 && bytes.len() as u64 <= self.room as u64 - at
+            }
+        }
     }
 }
 
@@ -126,6 +230,19 @@ fn copy_from(bytes: &[u8], at: u64, buf: &mut [u8])
 {
     let at = at as usize;
     buf.copy_from_slice(&bytes[at..at + buf.len()]);
+}
+
+/// Writes bytes into an area.
+fn put(image: &mut Vec<u8>, journal: &mut Vec<u8>, area: Area, at: u64, bytes: &[u8])
+    requires fits { FitsIn area at (length bytes.now) image.old journal.old }
+    ensures written { held_of image.new journal.new ≡ changed (Write area at bytes.now) (held_of image.old journal.old) }
+    ensures room { vec_len journal.new ≤ max (vec_len journal.old) (at + length bytes.now) }
+    ensures capacity { vec_capacity journal.old ≤ vec_capacity journal.new }
+{
+    match area {
+        Area::Image => overwrite(image, at as usize, bytes),
+        Area::Journal => write_from(journal, at as usize, bytes),
+    }
 }
 
 impl Store for MemStore {
@@ -140,12 +257,14 @@ impl Store for MemStore {
         ensures same { state_in_memory self.new ≡ state_in_memory self.old }
         ensures counted { IsCountedIn area result self.old.faults self.new.faults }
 
-        // A call fails exactly where its number was named.
+        // It fails exactly where its number was named.
         ensures fails { Contains self.old.failing (one_more self.old.calls) → IsErr result }
         ensures only_named { OnErr result (Contains self.old.failing (one_more self.old.calls)) }
-        ensures held { self.new.held ≡ self.old.held }
+        ensures story { self.new.story ≡ self.old.story }
+        ensures room { self.new.room ≡ self.old.room }
         ensures failing { self.new.failing ≡ self.old.failing }
         ensures calls { self.new.calls ≡ one_more self.old.calls }
+        ensures failures { self.new.failed ≡ faults_after result self.old.failed }
         ensures faults { self.new.faults ≡ faults_after_in area result self.old.faults }
     {
         self.calls.begin(area)?;
@@ -162,12 +281,14 @@ impl Store for MemStore {
         ensures same { state_in_memory self.new ≡ state_in_memory self.old }
         ensures counted { IsCountedIn area result self.old.faults self.new.faults }
 
-        // A call fails exactly where its number was named.
+        // It fails exactly where its number was named.
         ensures fails { Contains self.old.failing (one_more self.old.calls) → IsErr result }
         ensures only_named { OnErr result (Contains self.old.failing (one_more self.old.calls)) }
-        ensures held { self.new.held ≡ self.old.held }
+        ensures story { self.new.story ≡ self.old.story }
+        ensures room { self.new.room ≡ self.old.room }
         ensures failing { self.new.failing ≡ self.old.failing }
         ensures calls { self.new.calls ≡ one_more self.old.calls }
+        ensures failures { self.new.failed ≡ faults_after result self.old.failed }
         ensures faults { self.new.faults ≡ faults_after_in area result self.old.faults }
     {
         self.calls.begin(area)?;
@@ -175,6 +296,76 @@ impl Store for MemStore {
             Area::Image => copy_from(&self.image, at, buf),
             Area::Journal => copy_from(&self.journal, at, buf),
         }
+        Ok(())
+    }
+
+    fn write_at(&mut self, area: Area, at: u64, bytes: &[u8]) -> Result<(), Fault>
+        requires { MayWrite area at (length bytes.now) (state_in_memory self.old) }
+        ensures done { OnOk result (state_in_memory self.new ≡ state_after (Write area at bytes.now) (state_in_memory self.old)) }
+        ensures failed { OnErr result (IsAfterFailed (Write area at bytes.now) (state_in_memory self.old) (state_in_memory self.new)) }
+        ensures counted { IsCountedIn area result self.old.faults self.new.faults }
+
+        // It fails exactly where its number was named or there is no room, and then changes nothing.
+        ensures fails { Contains self.old.failing (one_more self.old.calls) → IsErr result }
+        ensures full { has_room (Write area at bytes.now) self.old.room ≡ false → IsErr result }
+        ensures only { OnErr result (IsRefused self.old.failing (one_more self.old.calls) (has_room (Write area at bytes.now) self.old.room)) }
+        ensures unchanged { OnErr result (self.new.story ≡ self.old.story) }
+        ensures room { OnOk result (self.new.room ≡ room_after (Write area at bytes.now) self.old.room) }
+        ensures failing { self.new.failing ≡ self.old.failing }
+        ensures calls { self.new.calls ≡ one_more self.old.calls }
+        ensures failures { self.new.failed ≡ faults_after result self.old.failed }
+        ensures faults { self.new.faults ≡ faults_after_in area result self.old.faults }
+    {
+        let has_room = self.has_room(area, at, bytes);
+        self.calls.begin_change(area, has_room)?;
+        put(&mut self.image, &mut self.journal, area, at, bytes);
+        self.changes.add_write(area, at, bytes);
+        Ok(())
+    }
+
+    fn cut_journal(&mut self, len: u64) -> Result<(), Fault>
+        requires { len ≤ size_of Area.Journal (state_in_memory self.old) }
+        ensures done { OnOk result (state_in_memory self.new ≡ state_after (Cut len) (state_in_memory self.old)) }
+        ensures failed { OnErr result (IsAfterFailed (Cut len) (state_in_memory self.old) (state_in_memory self.new)) }
+        ensures counted { IsCountedIn Area.Journal result self.old.faults self.new.faults }
+
+        // It fails exactly where its number was named or there is no room, and then changes nothing.
+        ensures fails { Contains self.old.failing (one_more self.old.calls) → IsErr result }
+        ensures full { has_room (Cut len) self.old.room ≡ false → IsErr result }
+        ensures only { OnErr result (IsRefused self.old.failing (one_more self.old.calls) (has_room (Cut len) self.old.room)) }
+        ensures unchanged { OnErr result (self.new.story ≡ self.old.story) }
+        ensures room { OnOk result (self.new.room ≡ room_after (Cut len) self.old.room) }
+        ensures failing { self.new.failing ≡ self.old.failing }
+        ensures calls { self.new.calls ≡ one_more self.old.calls }
+        ensures failures { self.new.failed ≡ faults_after result self.old.failed }
+        ensures faults { self.new.faults ≡ faults_after_in Area.Journal result self.old.faults }
+    {
+        let has_room = self.changes.left() > 0;
+        self.calls.begin_change(Area::Journal, has_room)?;
+        self.journal.truncate(len as usize);
+        self.changes.add_cut(len);
+        Ok(())
+    }
+
+    fn sync(&mut self) -> Result<(), Fault>
+        ensures done { OnOk result (state_in_memory self.new ≡ state_after Sync (state_in_memory self.old)) }
+        ensures failed { OnErr result (state_in_memory self.new ≡ state_in_memory self.old) }
+        ensures counted { IsCountedInBoth result self.old.faults self.new.faults }
+
+        // It fails exactly where its number was named or there is no room, and then changes nothing.
+        ensures fails { Contains self.old.failing (one_more self.old.calls) → IsErr result }
+        ensures full { has_room Sync self.old.room ≡ false → IsErr result }
+        ensures only { OnErr result (IsRefused self.old.failing (one_more self.old.calls) (has_room Sync self.old.room)) }
+        ensures unchanged { OnErr result (self.new.story ≡ self.old.story) }
+        ensures room { OnOk result (self.new.room ≡ room_after Sync self.old.room) }
+        ensures failing { self.new.failing ≡ self.old.failing }
+        ensures calls { self.new.calls ≡ one_more self.old.calls }
+        ensures failures { self.new.failed ≡ faults_after result self.old.failed }
+        ensures faults { self.new.faults ≡ faults_after_in_both result self.old.faults }
+    {
+        let has_room = self.changes.left() > 0;
+        self.calls.begin_sync(has_room)?;
+        self.changes.add_sync();
         Ok(())
     }
 

@@ -4,11 +4,12 @@
 //! implementation may give a meaning: what is proved of a call holds under each meaning, and so speaks of the very answer
 //! of exactly one call. What is left to trust is that the bodies under the traits make the calls that they name.
 ghost use Rattle.std.specs.Prelude.{◌≡◌, ◌<◌, ◌≤◌, ℕ, Result, length, false, is_none, nat_lt, IfOk, IsErr, IsTrue, OnErr, true, ⊤};
-ghost use Rattle.disk_defs.specs.Count.{IsCounted};
+ghost use Rattle.disk_defs.specs.Count.{IsCounted, Rose, one_more};
 ghost use Rattle.std.specs.declared.io.Error.{Error};
 ghost use Rattle.rx_store.specs.Outside.{Came, IfBytes, IsNoted, judged, settled};
 
 use disk_defs::Fault;
+use std::fs::OpenFile;
 use std::io;
 use std::io::{ErrorKind, Read, Seek, SeekFrom, Write};
 use std::marker::Model;
@@ -86,6 +87,44 @@ impl<W: Write> Writes for W {
     }
 }
 
+/// What writes from any place on, is made shorter and is waited for, as std's files do.
+pub(crate) trait WritesTo {
+    /// What such an answer to a write, a cut or a sync says of the file before and after it. What succeeds and moves no bytes
+    /// answers 0.
+    ghost written: { Self → Result ℕ Error → Self → Type 0 } = { λ _ _ _. ⊤ };
+
+    ghost cut: { Self → Result ℕ Error → Self → Type 0 } = { λ _ _ _. ⊤ };
+
+    ghost synced: { Self → Result ℕ Error → Self → Type 0 } = { λ _ _ _. ⊤ };
+
+    fn call_to(&mut self, at: u64, bytes: &[u8]) -> io::Result<usize>
+        ensures within { IfOk result (λ count. count ≤ length bytes.now) }
+        ensures answered { written self.old result self.new };
+
+    fn call_cut(&mut self, len: u64) -> io::Result<usize>
+        ensures answered { cut self.old result self.new };
+
+    fn call_sync(&mut self) -> io::Result<usize>
+        ensures answered { synced self.old result self.new };
+}
+
+impl<F: Write + Seek + OpenFile> WritesTo for F {
+    fn call_to(&mut self, at: u64, bytes: &[u8]) -> io::Result<usize> {
+        self.seek(SeekFrom::Start(at))?;
+        self.write(bytes)
+    }
+
+    fn call_cut(&mut self, len: u64) -> io::Result<usize> {
+        self.set_len(len)?;
+        Ok(0)
+    }
+
+    fn call_sync(&mut self) -> io::Result<usize> {
+        self.sync_all()?;
+        Ok(0)
+    }
+}
+
 /// A file or a stream, or none where it couldn't be opened, with the count of its calls that failed. The count stays at
 /// its last value. Of the calls that a signal interrupted, 2^64 - 1 are made again.
 #[derive(Drop)]
@@ -138,6 +177,16 @@ impl<D> Outside<D> {
                 Outcome::Failed
             }
         }
+    }
+
+    /// Counts a fault.
+    pub(crate) fn fail(&mut self) -> Fault
+        ensures same { self.new ≡ record self.old { faults = one_more self.old.faults } }
+        ensures counts { self.old.faults ≤ self.new.faults }
+        ensures counted { Rose self.old.faults self.new.faults }
+    {
+        self.note(Outcome::Failed);
+        Fault
     }
 
     /// Counts a call on what couldn't be opened as a fault.
@@ -196,6 +245,46 @@ impl<W: Writes> Outside<W> {
     {
         let outcome = match &mut self.device {
             Some(writer) => judge(writer.call(bytes), !bytes.is_empty()),
+            None => Outcome::Failed,
+        };
+        self.note(outcome)
+    }
+}
+
+impl<F: WritesTo> Outside<F> {
+    /// Writes once from a place on. A write of nothing is a fault, unless there is nothing to write.
+    pub(crate) fn write_to(&mut self, at: u64, bytes: &[u8]) -> Outcome
+        ensures within { IfBytes result (λ count. count ≤ length bytes.now) }
+        ensures progress { IfBytes result (λ count. 0 < length bytes.now → 0 < count) }
+        ensures came { Came F.written (nat_lt 0 (length bytes.now)) self.old self.new result }
+        ensures noted { IsNoted result self.old self.new }
+    {
+        let outcome = match &mut self.device {
+            Some(file) => judge(file.call_to(at, bytes), !bytes.is_empty()),
+            None => Outcome::Failed,
+        };
+        self.note(outcome)
+    }
+
+    /// Makes a file so many bytes long, once.
+    pub(crate) fn cut(&mut self, len: u64) -> Outcome
+        ensures came { Came F.cut false self.old self.new result }
+        ensures noted { IsNoted result self.old self.new }
+    {
+        let outcome = match &mut self.device {
+            Some(file) => judge(file.call_cut(len), false),
+            None => Outcome::Failed,
+        };
+        self.note(outcome)
+    }
+
+    /// Waits once until what was written is on the disk.
+    pub(crate) fn sync(&mut self) -> Outcome
+        ensures came { Came F.synced false self.old self.new result }
+        ensures noted { IsNoted result self.old self.new }
+    {
+        let outcome = match &mut self.device {
+            Some(file) => judge(file.call_sync(), false),
             None => Outcome::Failed,
         };
         self.note(outcome)

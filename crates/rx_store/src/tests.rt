@@ -7,7 +7,7 @@ use super::{
     Source, StdSink, StdSource, Store, read_to_end, write_all,
 };
 use std::alloc::{AllocError, Global};
-use std::fs::File;
+use std::fs::{File, OpenOptions};
 use std::io::{ErrorKind, Read, Write};
 use std::path::PathBuf;
 use std::process::Abort;
@@ -36,6 +36,27 @@ fn a_store_in_memory_fails_where_it_is_told_to(rt: HostRuntime) -> Result<(), Fa
     assert_eq!(rt; buf.as_slice(), b"xye".as_slice());
     assert_eq!(rt; store.faults(), 2);
     assert_eq!(rt; store.image(), b"abcdef".as_slice());
+    Ok(())
+}
+
+#[test]
+fn a_store_in_memory_is_written_while_there_is_room(rt: HostRuntime) -> Result<(), Fail> {
+    let image = bytes_of(rt.alloc(), b"abcdef")?;
+    let journal = bytes_of(rt.alloc(), b"xy")?;
+    let mut store = MemStore::new(rt.alloc(), image, journal, 4, 6, 8)?;
+    assert_eq!(rt; store.write_at(Area::Image, 2, b"XY"), Ok(()));
+    assert_eq!(rt; store.image(), b"abXYef".as_slice());
+    assert_eq!(rt; store.write_at(Area::Journal, 1, b"123"), Ok(()));
+    assert_eq!(rt; store.journal(), b"x123".as_slice());
+    assert_eq!(rt; store.write_at(Area::Journal, 4, b"4"), Err(Fault));
+    assert_eq!(rt; store.cut_journal(2), Ok(()));
+    assert_eq!(rt; store.sync(), Ok(()));
+    assert_eq!(rt; store.write_at(Area::Journal, 1, b"56"), Ok(()));
+    assert_eq!(rt; store.journal(), b"x56".as_slice());
+    assert_eq!(rt; store.write_at(Area::Image, 0, b"ab"), Err(Fault));
+    assert_eq!(rt; store.cut_journal(0), Ok(()));
+    assert_eq!(rt; store.sync(), Err(Fault));
+    assert_eq!(rt; store.faults(), 3);
     Ok(())
 }
 
@@ -101,6 +122,13 @@ fn opened(rt: &HostRuntime, path: &PathBuf) -> Opened {
     }
 }
 
+fn opened_to_write(rt: &HostRuntime, path: &PathBuf) -> Opened {
+    match OpenOptions::new().read(true).write(true).open(rt, path) {
+        Ok(file) => Opened::Open(file),
+        Err(_) => Opened::Failed,
+    }
+}
+
 fn size<S: Store>(rt: &impl Abort, store: &mut S, area: Area) -> u64
     ensures size { result ≡ size_of area (S.state store.old) }
     ensures same { S.state store.new ≡ S.state store.old }
@@ -126,6 +154,29 @@ fn a_store_reads_a_file_until_it_is_cut(rt: HostRuntime) -> Result<(), Fail> {
     assert_eq!(rt; store.len(Area::Image), Ok(6));
     assert_eq!(rt; store.read_at(Area::Image, 2, &mut buf), Err(Fault));
     fs::remove_file(&rt, &path)?;
+    Ok(())
+}
+
+#[test]
+fn a_store_writes_its_files(rt: HostRuntime) -> Result<(), Fail> {
+    let image = place(&rt, "written")?;
+    let journal = place(&rt, "journal")?;
+    fs::write(&rt, &image, "abcdef")?;
+    fs::write(&rt, &journal, "xyz")?;
+    let mut store = FileStore::new(opened_to_write(&rt, &image), opened_to_write(&rt, &journal));
+    assert_eq!(rt; store.write_at(Area::Image, 2, b"XY"), Ok(()));
+    assert_eq!(rt; store.cut_journal(1), Ok(()));
+    assert_eq!(rt; store.write_at(Area::Journal, 1, b"123"), Ok(()));
+    assert_eq!(rt; store.sync(), Ok(()));
+    assert_eq!(rt; size(&rt, &mut store, Area::Journal), 4);
+    assert_eq!(rt; fs::read_to_string(&rt, &image)?.as_str(), "abXYef");
+    assert_eq!(rt; fs::read_to_string(&rt, &journal)?.as_str(), "x123");
+    let mut read_only = FileStore::new(opened(&rt, &image), Opened::Absent);
+    assert_eq!(rt; read_only.write_at(Area::Image, 2, b"--"), Err(Fault));
+    assert_eq!(rt; read_only.write_at(Area::Journal, 0, b"-"), Err(Fault));
+    assert_eq!(rt; fs::read_to_string(&rt, &image)?.as_str(), "abXYef");
+    fs::remove_file(&rt, &image)?;
+    fs::remove_file(&rt, &journal)?;
     Ok(())
 }
 
