@@ -4,6 +4,7 @@ ghost use Rattle.std.specs.Prelude.{◌≡◌, IfOk};
 ghost use Rattle.disk_defs.specs.Disk.{size_of};
 ghost use Rattle.disk_defs.specs.declared.Area.TheVariants.{Image};
 ghost use Rattle.piece_defs.specs.Places.{AreWithin};
+ghost use Rattle.disk_defs.specs.Memory.{held_in_memory};
 
 use crate::leaves::Leaves;
 use rx_ranges::{Piece, PieceKind, Pieces};
@@ -58,7 +59,7 @@ fn image() -> [u8; 4096] {
 }
 
 fn store_of(alloc: Global, bytes: &[u8]) -> Result<MemStore, AllocError>
-    ensures { IfOk result (λ store. store.held.image ≡ bytes.now) }
+    ensures { IfOk result (λ store. (held_in_memory store).image ≡ bytes.now) }
 {
     MemStore::new(
         alloc,

@@ -1,5 +1,6 @@
 //! Tests of what no clause says: a header whose fields were written by hand, and a device that fails at each call.
 ghost use Rattle.std.specs.Prelude.{◌≡◌, IfOk, length};
+ghost use Rattle.disk_defs.specs.Memory.{held_in_memory};
 
 use super::{Extent, read_header};
 use rx_store::{MemStore, ReadFault, Sort, Store};
@@ -23,7 +24,7 @@ fn volume() -> [u8; 4096] {
 }
 
 fn store_of(alloc: Global, bytes: &[u8]) -> Result<MemStore, AllocError>
-    ensures { IfOk result (λ store. store.held.image ≡ bytes.now) }
+    ensures { IfOk result (λ store. (held_in_memory store).image ≡ bytes.now) }
 {
     MemStore::new(
         alloc,

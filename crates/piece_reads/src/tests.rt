@@ -1,5 +1,6 @@
 //! A test of what no clause says: a content is read over a store in memory.
 ghost use Rattle.std.specs.Prelude.{◌≡◌, IfOk};
+ghost use Rattle.disk_defs.specs.Memory.{held_in_memory};
 
 use super::read_pieces;
 use rx_ranges::{Piece, PieceKind};
@@ -30,7 +31,7 @@ const PIECES: [Piece; 3] = [
 ];
 
 fn store_of(alloc: Global, bytes: &[u8]) -> Result<MemStore, AllocError>
-    ensures { IfOk result (λ store. store.held.image ≡ bytes.now) }
+    ensures { IfOk result (λ store. (held_in_memory store).image ≡ bytes.now) }
 {
     MemStore::new(
         alloc,
