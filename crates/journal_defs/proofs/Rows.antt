@@ -1,20 +1,20 @@
 -- Journals worked out by hand.
-use Rattle.std.specs.Prelude.{◌≡◌, ◌<◌, ℕ, zero, codes, set, take, All, Bool, true, false, Option, Some, None, List, [], ◌∷◌, replicate, length, refl}
+use Rattle.std.specs.Prelude.{◌≡◌, ◌<◌, ℕ, codes, set, take, true, Option, Some, None, List, [], ◌∷◌, refl}
 use Rattle.std.proofs.Common.{lit<}
-use Rattle.std.specs.Str.{is_utf8}
+use Rattle.std.specs.Str.{is_utf8, chars}
+use lib.Utf8.{encode}
+use Rattle.std.proofs.lemmas.List.Elements.{All-cons, All-nil}
 use Rattle.bytes_defs.specs.Bytes.{part}
 use Rattle.bytes_defs.specs.Numbers.{number_at}
-use Rattle.journal_defs.specs.Form.{little, range_bytes, line_bytes, header_rest, journal_bytes, first_journal, journal_len, IsOpen, IsJournal}
+use Rattle.journal_defs.specs.Form.{little, range_bytes, line_bytes, header_rest, journal_bytes, first_journal, journal_len, IsJournal}
 use Rattle.journal_defs.specs.Reading.{plan_in}
 use Rattle.journal_defs.specs.Checks.{first_failing, header_checks, range_checks, ranges_checks, line_checks, lines_checks, bad_at}
-use Rattle.range_defs.specs.declared.Claim.{Claim}
-use Rattle.rx_ranges.specs.declared.plan.Listed.{Listed}
 use Rattle.rx_ranges.specs.declared.plan.ListKind.TheVariants.{File}
 use Rattle.rx_ranges.specs.declared.plan.Plan.{Plan}
 
 -- `unfolding computing` opens how a journal is written and checked
 unfoldable computing : Unit {0}
-unfolding little range_bytes line_bytes header_rest journal_bytes first_failing header_checks range_checks ranges_checks line_checks lines_checks part number_at is_utf8
+unfolding little range_bytes line_bytes header_rest journal_bytes first_failing header_checks range_checks ranges_checks line_checks lines_checks part number_at is_utf8 chars encode
 computing = tt
 
 -- three bytes of an image of 262,144, which rule 1 fills with 0x58, and the name of their file
@@ -48,7 +48,7 @@ three_bytes_journal = record {
   each_group = refl;
   group_marks = refl;
   last_mark = refl;
-  bytes_fit = (lit< tt, tt);
+  bytes_fit = All-cons (λ byte. byte < 256) 0x44 [] (lit< tt) (All-nil (λ byte. byte < 256));
   last_fits = lit< tt;
 }
 
@@ -176,7 +176,7 @@ nothing_journal = record {
   each_group = refl;
   group_marks = refl;
   last_mark = refl;
-  bytes_fit = tt;
+  bytes_fit = All-nil (λ byte. byte < 256);
   last_fits = lit< tt;
 }
 

@@ -5,9 +5,8 @@ use Rattle.std.specs.Str.{bytes_eq, is_utf8}
 use Rattle.bytes_defs.specs.Bytes.{part}
 use Rattle.bytes_defs.specs.Numbers.{little_at}
 use Rattle.journal_defs.specs.Form.{group_count}
-use Rattle.journal_defs.specs.Reading.{image_len_in, range_count_in, line_count_in, body_len_in, listing_len_in, listing_place, listing_end, claim_in, path_len_in, path_in, line_end}
+use Rattle.journal_defs.specs.Reading.{image_len_in, range_count_in, line_count_in, body_len_in, listing_len_in, listing_place, listing_end, claim_in, path_in, line_end}
 use Rattle.journal_defs.specs.declared.TheConstants.{HEADER_LEN, RANGE_LEN}
-use Rattle.range_defs.specs.declared.Claim.{Claim}
 use Rattle.range_defs.specs.declared.TheConstants.{LONGEST_IMAGE}
 use Rattle.rx_ranges.specs.Path.{begins_with_slash, is_printed}
 use Rattle.rx_ranges.specs.declared.plan.TheConstants.{MAX_RULE, MAX_RANGES, MAX_LISTED, MAX_LISTING_BYTES}
@@ -30,8 +29,11 @@ header_checks bytes =
     ∷ (16, nat_le (range_count_in bytes) MAX_RANGES)
     ∷ (20, nat_le (line_count_in bytes) MAX_LISTED)
     ∷ (24, body_len_in bytes == length bytes - HEADER_LEN)
-    ∷ (32, nat_le (listing_len_in bytes) MAX_LISTING_BYTES
-      && (RANGE_LEN * range_count_in bytes + listing_len_in bytes + (group_count (range_count_in bytes) + 1) == body_len_in bytes))
+    ∷ (
+      32,
+      nat_le (listing_len_in bytes) MAX_LISTING_BYTES
+          && (RANGE_LEN * range_count_in bytes + listing_len_in bytes + (group_count (range_count_in bytes) + 1) == body_len_in bytes),
+    )
     ∷ []
 
 -- a rule

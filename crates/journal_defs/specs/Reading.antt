@@ -1,5 +1,5 @@
 -- What stands at a place of a journal.
-use Rattle.std.specs.Prelude.{ℕ, zero, suc, ◌+◌, ◌*◌, ◌==◌, if◌then◌else◌, slice_index, List, [], ◌∷◌, length}
+use Rattle.std.specs.Prelude.{ℕ, zero, suc, ◌+◌, ◌*◌, ◌==◌, if◌then◌else◌, slice_index, List, [], ◌∷◌}
 use Rattle.bytes_defs.specs.Bytes.{part}
 use Rattle.bytes_defs.specs.Numbers.{little_at}
 use Rattle.journal_defs.specs.declared.TheConstants.{HEADER_LEN, RANGE_LEN}
