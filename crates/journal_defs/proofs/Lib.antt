@@ -1,1 +1,4 @@
+pub mod Fields
+pub mod Passing
+pub mod Ranges
 mod Rows
