@@ -1,11 +1,13 @@
 -- Numbers that stand in a list of bytes: what is read where one was written, and what was written where one is read.
 use Rattle.std.specs.Prelude.{◌≡◌, ℕ, zero, suc, ◌+◌, ◌-◌, ◌*◌, ◌/◌, ◌%◌, ◌^◌, ◌<◌, ◌≤◌, All, List, [], ◌∷◌, ◌++◌, length, take, drop, slice_index, refl}
-use Rattle.std.proofs.Common.{ap, sym, ◌∙◌, arith}
+use Rattle.std.proofs.Common.{ap, sym, subst, ◌∙◌, arith, inl, inr}
+use Rattle.std.proofs.lemmas.Bool.{cases_lt}
+use Rattle.std.proofs.lemmas.List.Elements.{All-drop, All-take}
 use Rattle.std.proofs.Math.Nat.{div-div-eq-div-mul, pow-succ'}
-use Rattle.std.proofs.lemmas.List.{append-nil, drop_at, drop-drop, drop_more, get_or-drop, take-append-drop, take_all, take_at}
+use Rattle.std.proofs.lemmas.List.{append-nil, drop_at, drop-drop, drop_more, get_or-drop, get_or_past, length-drop, length-take-le, take-append-drop, take_all, take_at}
 use Rattle.std.specs.Int.{byte_at, bytes_low_first}
 use Rattle.byteorder.specs.Endian.{little_bytes, little_number}
-use Rattle.byteorder.specs.Numbers.{length-bytes_low_first, little_number-reads_back}
+use Rattle.byteorder.specs.Numbers.{length-bytes_low_first, little_from-lt, little_number-reads_back}
 use Rattle.bytes_defs.specs.Bytes.{part}
 use Rattle.bytes_defs.specs.Numbers.{number_at}
 use Rattle.bytes_defs.specs.declared.order.Order.TheVariants.{Little}
@@ -99,3 +101,25 @@ part_written bytes at n = sym (take-append-drop n (drop at bytes)) ∙ ap (λ re
 
 pub byte_written : (bytes : List ℕ) (at : ℕ) → at < length bytes → drop at bytes ≡ slice_index bytes at ∷ drop (at + 1) bytes
 byte_written bytes at long = drop_more bytes at 0 long
+
+-- ---- lengths and bounds
+
+pub length_part : (bytes : List ℕ) (at n : ℕ) → at + n ≤ length bytes → length (part bytes at n) ≡ n
+unfolding part
+length_part bytes at n long = length-take-le n (drop at bytes) (omega (arith, length-drop at bytes))
+
+-- each place of a list of bytes has a byte, also one behind its end
+byte_fits : (bytes : List ℕ) (at : ℕ) → AreBytes bytes → slice_index bytes at < 256
+byte_fits bytes at fit = elim (cases_lt at (length bytes)) [
+  | inl inside ↦ fit at 0 inside
+  | inr past ↦
+      let none : slice_index bytes at ≡ 0 = get_or_past bytes at 0 past in
+      omega (arith, none)
+]
+
+pub number_fits : (bytes : List ℕ) (at n : ℕ) → AreBytes bytes → number_at Little n bytes at < 256 ^ n
+number_fits bytes at n fit =
+    let slice = take (length bytes - at) (drop at bytes) in
+    let slice_fits : AreBytes slice = All-take (λ byte. byte < 256) (length bytes - at) (drop at bytes) (All-drop (λ byte. byte < 256) at bytes fit) in
+    let Below : ℕ → Type 0 = λ number. number < 256 ^ n in
+    subst Below (sym (little_at_slice n bytes at)) (little_from-lt 0 n slice (λ k. byte_fits slice k slice_fits))

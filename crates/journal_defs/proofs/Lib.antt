@@ -1,4 +1,6 @@
 pub mod Fields
+pub mod Journals
+pub mod Lines
 pub mod Passing
 pub mod Ranges
 mod Rows
