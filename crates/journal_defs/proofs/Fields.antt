@@ -109,7 +109,7 @@ unfolding part
 length_part bytes at n long = length-take-le n (drop at bytes) (omega (arith, length-drop at bytes))
 
 -- each place of a list of bytes has a byte, also one behind its end
-byte_fits : (bytes : List ℕ) (at : ℕ) → AreBytes bytes → slice_index bytes at < 256
+pub byte_fits : (bytes : List ℕ) (at : ℕ) → AreBytes bytes → slice_index bytes at < 256
 byte_fits bytes at fit = elim (cases_lt at (length bytes)) [
   | inl inside ↦ fit at 0 inside
   | inr past ↦

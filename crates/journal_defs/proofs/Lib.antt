@@ -1,5 +1,6 @@
 pub mod Fields
 pub mod Journals
+pub mod JournalLaws
 pub mod Lines
 pub mod Passing
 pub mod Ranges

@@ -10,6 +10,8 @@
 //!     01 00 00 00 00 00 00 00  00 00 00 00 00 00 00 00  44
 #![tactic(auto)]
 
+pub mod laws;
+
 /// The gate of an open journal.
 pub const OPEN_GATE: u8 = 0x4F;
 
