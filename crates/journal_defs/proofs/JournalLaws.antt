@@ -53,12 +53,12 @@ journal_read bytes plan marks last is each form =
     let ranges_pass : first_failing (ranges_checks bytes 40 0 0 (range_count_in bytes)) ≡ None = ap (λ count. first_failing (ranges_checks bytes 40 0 0 count)) header.ranges ∙ claims.pass in
     let lines_pass : first_failing (lines_checks bytes (listing_end bytes) (listing_place bytes) (line_count_in bytes)) ≡ None =
     ap (λ count. first_failing (lines_checks bytes (listing_end bytes) (listing_place bytes) count)) header.lines ∙ lines.pass in
-    let front : first_failing (header_checks bytes ++ ranges_checks bytes 40 0 0 (range_count_in bytes)) ≡ None =
-    pass_all (header_checks bytes) _ (header_passes bytes plan ranges is header long) ∙ ranges_pass in
+    let front : first_failing (header_checks bytes (length bytes) ++ ranges_checks bytes 40 0 0 (range_count_in bytes)) ≡ None =
+    pass_all (header_checks bytes (length bytes)) _ (header_passes bytes plan ranges is header long) ∙ ranges_pass in
     let claims_are : claims_in bytes 40 (range_count_in bytes) ≡ plan.ranges = ap (claims_in bytes 40) header.ranges ∙ claims.are in
     let lines_are : lines_in bytes (listing_place bytes) (line_count_in bytes) ≡ plan.listing = ap (lines_in bytes (listing_place bytes)) header.lines ∙ lines.are in
     let image_is = header.image_len in record {
-      passes = pass_all (header_checks bytes ++ ranges_checks bytes 40 0 0 (range_count_in bytes)) _ front ∙ lines_pass;
+      passes = pass_all (header_checks bytes (length bytes) ++ ranges_checks bytes 40 0 0 (range_count_in bytes)) _ front ∙ lines_pass;
       read = rw (image_is, claims_are, lines_are) refl;
       behind = lines.behind;
     }
@@ -80,9 +80,9 @@ unfolding part
 journal_written bytes fit open_here none =
     let plan = plan_in bytes in
     let groups = group_count (range_count_in bytes) in
-    let parts = both_pass (header_checks bytes ++ ranges_checks bytes 40 0 0 (range_count_in bytes)) (lines_checks bytes (listing_end bytes) (listing_place bytes) (line_count_in bytes)) none in
-    let front = both_pass (header_checks bytes) (ranges_checks bytes 40 0 0 (range_count_in bytes)) parts.0 in
-    let holds : HeaderHolds bytes = header_holds bytes front.0 in
+    let parts = both_pass (header_checks bytes (length bytes) ++ ranges_checks bytes 40 0 0 (range_count_in bytes)) (lines_checks bytes (listing_end bytes) (listing_place bytes) (line_count_in bytes)) none in
+    let front = both_pass (header_checks bytes (length bytes)) (ranges_checks bytes 40 0 0 (range_count_in bytes)) parts.0 in
+    let holds : HeaderHolds bytes (length bytes) = header_holds bytes (length bytes) front.0 in
     let long : length bytes ≡ listing_end bytes + (groups + 1) = omega (arith, open_here.0, holds.body, holds.total) in
     let ranges : AreRangesWritten bytes 40 0 0 (range_count_in bytes) = ranges_written (range_count_in bytes) bytes 40 0 0 fit (omega (arith, long)) front.1 in
     let lines : AreLinesWritten bytes (listing_end bytes) (listing_place bytes) (line_count_in bytes) =

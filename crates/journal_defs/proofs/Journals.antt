@@ -94,7 +94,7 @@ header_written bytes plan fit long is =
     ∙ ap (λ rest. little 8 (body_len plan) ++ rest) at_listing)))))
 
 -- the header of a plan passes its checks
-pub header_passes : (bytes : List ℕ) (plan : Plan) (rest : List ℕ) → IsPlan plan → IsHeaderOf bytes plan rest → length bytes ≡ journal_len plan → first_failing (header_checks bytes) ≡ None
+pub header_passes : (bytes : List ℕ) (plan : Plan) (rest : List ℕ) → IsPlan plan → IsHeaderOf bytes plan rest → length bytes ≡ journal_len plan → first_failing (header_checks bytes (length bytes)) ≡ None
 unfolding header_checks
 header_passes bytes plan rest plan_is is long =
     let total : 24 * range_count_in bytes + listing_len_in bytes + (group_count (range_count_in bytes) + 1) ≡ body_len_in bytes = omega (arith, is.ranges, is.listing, is.body) in
@@ -111,31 +111,31 @@ header_passes bytes plan rest plan_is is long =
     ∙ nothing_fails
 
 -- what the checks of a header say
-pub record HeaderHolds (bytes : List ℕ) : Type 0 where
+pub record HeaderHolds (bytes : List ℕ) (len : ℕ) : Type 0 where
   pub text : part bytes 1 7 ≡ codes "DFRJ v1"
   pub image_len : image_len_in bytes ≤ LONGEST_IMAGE
   pub ranges : range_count_in bytes ≤ MAX_RANGES
   pub lines : line_count_in bytes ≤ MAX_LISTED
-  pub body : body_len_in bytes ≡ length bytes - 40
+  pub body : body_len_in bytes ≡ len - 40
   pub listing : listing_len_in bytes ≤ MAX_LISTING_BYTES
   pub total : 24 * range_count_in bytes + listing_len_in bytes + (group_count (range_count_in bytes) + 1) ≡ body_len_in bytes
 
-pub header_holds : (bytes : List ℕ) → first_failing (header_checks bytes) ≡ None → HeaderHolds bytes
+pub header_holds : (bytes : List ℕ) (len : ℕ) → first_failing (header_checks bytes len) ≡ None → HeaderHolds bytes len
 unfolding header_checks
-header_holds bytes none =
+header_holds bytes len none =
     let total = 24 * range_count_in bytes + listing_len_in bytes + (group_count (range_count_in bytes) + 1) == body_len_in bytes in
     let one = passes 1 (bytes_eq (part bytes 1 7) (codes "DFRJ v1")) _ none in
     let two = passes 8 (nat_le (image_len_in bytes) LONGEST_IMAGE) _ one.1 in
     let three = passes 16 (nat_le (range_count_in bytes) MAX_RANGES) _ two.1 in
     let four = passes 20 (nat_le (line_count_in bytes) MAX_LISTED) _ three.1 in
-    let five = passes 24 (body_len_in bytes == length bytes - 40) _ four.1 in
+    let five = passes 24 (body_len_in bytes == len - 40) _ four.1 in
     let six = passes 32 (nat_le (listing_len_in bytes) MAX_LISTING_BYTES && total) [] five.1 in
     let listing = and_parts (nat_le (listing_len_in bytes) MAX_LISTING_BYTES) total six.0 in record {
       text = (bytes_eq-Decides (part bytes 1 7) (codes "DFRJ v1")).0 one.0;
       image_len = leb-true (image_len_in bytes) LONGEST_IMAGE two.0;
       ranges = leb-true (range_count_in bytes) MAX_RANGES three.0;
       lines = leb-true (line_count_in bytes) MAX_LISTED four.0;
-      body = eqb-true (body_len_in bytes) (length bytes - 40) five.0;
+      body = eqb-true (body_len_in bytes) (len - 40) five.0;
       listing = leb-true (listing_len_in bytes) MAX_LISTING_BYTES listing.0;
       total = eqb-true (24 * range_count_in bytes + listing_len_in bytes + (group_count (range_count_in bytes) + 1)) (body_len_in bytes) listing.1;
     }

@@ -21,14 +21,14 @@ first_failing [] = None
 first_failing (check ∷ checks) = if check.1 then first_failing checks else Some check.0
 
 -- the header: the text, the image's length, how many ranges and lines there are, the bytes of the body, and those of the
--- listing, which with those of ranges and marks make the body
-unfoldable pub header_checks : List ℕ → List Check
-header_checks bytes =
+-- listing, which with those of ranges and marks make the body. The journal has `len` bytes.
+unfoldable pub header_checks : List ℕ → ℕ → List Check
+header_checks bytes len =
     (1, bytes_eq (part bytes 1 7) (codes "DFRJ v1"))
     ∷ (8, nat_le (image_len_in bytes) LONGEST_IMAGE)
     ∷ (16, nat_le (range_count_in bytes) MAX_RANGES)
     ∷ (20, nat_le (line_count_in bytes) MAX_LISTED)
-    ∷ (24, body_len_in bytes == length bytes - HEADER_LEN)
+    ∷ (24, body_len_in bytes == len - HEADER_LEN)
     ∷ (
       32,
       nat_le (listing_len_in bytes) MAX_LISTING_BYTES
@@ -85,7 +85,7 @@ lines_checks bytes end at (suc count) = line_checks bytes end at ++ lines_checks
 -- all checks of an open journal
 abbrev pub journal_checks : List ℕ → List Check
 journal_checks bytes =
-    header_checks bytes ++ ranges_checks bytes HEADER_LEN 0 0 (range_count_in bytes)
+    header_checks bytes (length bytes) ++ ranges_checks bytes HEADER_LEN 0 0 (range_count_in bytes)
     ++ lines_checks bytes (listing_end bytes) (listing_place bytes) (line_count_in bytes)
 
 -- the place of the first check that an open journal fails
