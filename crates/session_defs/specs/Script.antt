@@ -71,8 +71,8 @@ group_calls plan group =
 -- the groups from a number on that aren't marked
 unfoldable pub unmarked_calls : Plan → ℕ → List Bool → List Call
 unmarked_calls plan group [] = []
-unmarked_calls plan group (true ∷ marks) = unmarked_calls plan (suc group) marks
-unmarked_calls plan group (false ∷ marks) = group_calls plan group ++ unmarked_calls plan (suc group) marks
+unmarked_calls plan group (true ∷ marks) = unmarked_calls plan (group + 1) marks
+unmarked_calls plan group (false ∷ marks) = group_calls plan group ++ unmarked_calls plan (group + 1) marks
 
 -- the last mark is set, which stands behind those of the groups
 abbrev pub closing_calls : Plan → List Call

@@ -1,0 +1,4 @@
+//! Carries out a plan, one call on the store a turn.
+#![tactic(auto)]
+
+mod step;
