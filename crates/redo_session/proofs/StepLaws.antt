@@ -1,10 +1,15 @@
 -- Laws of the calls that are left: which comes first, and which are left behind it.
-use Rattle.std.proofs.Common.{◌≡◌, ℕ, suc, ◌+◌, ◌-◌, ◌*◌, ◌<◌, ◌≤◌, min, Bool, true, false, List, [], ◌∷◌, ◌++◌, length, take, drop, replicate, slice_index_or, refl, sym, ◌∙◌, ap, arith, length-drop, append_assoc}
+use Rattle.std.proofs.Common.{◌≡◌, ℕ, suc, ◌+◌, ◌-◌, ◌*◌, ◌<◌, ◌≤◌, min, Bool, true, false, List, [], ◌∷◌, ◌++◌, length, take, drop, replicate, slice_index_or, refl, sym, ◌∙◌, ap, arith, length-drop, length-take, append_assoc, subst, Option, Some, IfSome, Result, Ok, Err, OnOk, OnErr}
 use Rattle.std.specs.List.{flat_map}
 use Rattle.std.proofs.Math.Seq.{drop-cons}
 use Rattle.std.proofs.lemmas.List.{drop-drop, drop_all, drop-replicate, length-replicate, take_min, take_all}
 use Rattle.std.proofs.lemmas.List.Elements.{All-head, All-tail}
 use Rattle.disk_defs.specs.Story.{Write}
+use Rattle.disk_defs.specs.Disk.{Sizes, State, sizes_after, state_after, IsAfterFailed}
+use Rattle.disk_defs.specs.declared.Fault.{Fault}
+use Rattle.disk_defs.specs.declared.Area.{Area}
+use Rattle.bytes_defs.specs.Bytes.{part}
+use Rattle.session_defs.specs.Session.{IsMade}
 use Rattle.disk_defs.specs.declared.Area.TheVariants.{Image, Journal}
 use Rattle.journal_defs.specs.Form.{first_journal, groups_of, journal_len}
 use Rattle.journal_defs.specs.declared.TheConstants.{GROUP_RANGES, SET_MARK}
@@ -17,7 +22,8 @@ use Rattle.session_defs.specs.declared.TheConstants.{PIECE}
 use Rattle.session_defs.specs.declared.Turn.{Turn}
 use Rattle.session_defs.specs.declared.Turn.TheVariants.{Wrote, Filled, Marked}
 use Rattle.session_defs.proofs.Writes.{writes_first, writes_none, take_equal}
-use Rattle.redo_session.specs.Steps.{no_claim, claim_at, group_end, ranges_up_to, left_from_group, left_behind_fills, left_from_range, left_behind_body, left_from_byte, left, call_of}
+use Rattle.redo_session.specs.Steps.{no_claim, claim_at, group_end, ranges_up_to, left_from_group, left_behind_fills, left_from_range, left_behind_body, left_from_byte, left, call_of, IsStep, HasJournal}
+use Rattle.redo_session.specs.declared.step.Step.{Step}
 use Rattle.redo_session.specs.declared.step.Step.TheVariants.{Body, Fill}
 
 -- an item, and those behind it
@@ -136,3 +142,33 @@ unmarked_group plan marks group within unmarked =
 pub groups_end : (plan : Plan) (marks : List Bool) (group : ℕ) → length marks ≤ group → left_from_group plan marks group ≡ closing_calls plan
 unfolding unmarked_calls
 groups_end plan marks group behind = ap (λ rest. unmarked_calls plan group rest ++ closing_calls plan) (drop_all group marks behind)
+
+-- the bytes of a piece of the first journal
+pub body_bytes : (plan : Plan) (at len count : ℕ) → len ≡ journal_len plan → count ≡ min PIECE (len - at)
+    → part (first_journal plan) at count ≡ take PIECE (drop at (first_journal plan))
+unfolding part
+body_bytes plan at len count len_is count_is =
+    let rest = drop at (first_journal plan) in
+    let same : count ≡ min PIECE (length rest) = omega (arith, len_is, count_is, length-drop at (first_journal plan), length_first plan) in
+    ap (λ n. take n rest) same ∙ take_min PIECE rest
+
+-- a write that came out so was made, or left what it left
+pub made_write : {T : Type 0} (result : Result T Fault) (turn : Turn) (area : Area) (at : ℕ) (bytes written : List ℕ) (before now : State) → bytes ≡ written
+    → OnOk result (now ≡ state_after (Write area at bytes) before) → OnErr result (IsAfterFailed (Write area at bytes) before now)
+    → IsMade (Some (record { turn = turn; change = Write area at written })) result before now
+made_write (Ok x) turn area at bytes written before now same done failed = done ∙ ap (λ text. state_after (Write area at text) before) same
+made_write (Err e) turn area at bytes written before now same done failed = subst (λ text. IsAfterFailed (Write area at text) before now) same failed
+
+-- the length of the journal behind a piece of it
+pub body_len_after : (plan : Plan) (at : ℕ) (next : Option ℕ) (sizes : Sizes) → at < journal_len plan → next ≡ Some (min (at + PIECE) (journal_len plan)) → sizes.journal ≡ at
+    → IfSome next (λ len. (sizes_after (call_of plan (Body at)).change sizes).journal ≡ len)
+body_len_after plan at next sizes within next_is here =
+    subst (λ (next : Option ℕ). IfSome next (λ len. (sizes_after (call_of plan (Body at)).change sizes).journal ≡ len)) (sym next_is)
+    (omega (arith, within, here, length-take PIECE (drop at (first_journal plan)), length-drop at (first_journal plan), length_first plan))
+
+-- the same, of a step that is a piece
+pub body_sizes : (plan : Plan) (step : Step) (at : ℕ) (next : Option ℕ) (sizes : Sizes) → step ≡ Body at → IsStep plan step
+    → next ≡ Some (min (at + PIECE) (journal_len plan)) → HasJournal plan step sizes → IfSome next (λ len. (sizes_after (call_of plan step).change sizes).journal ≡ len)
+body_sizes plan step at next sizes is valid next_is here =
+    subst (λ (step : Step). IsStep plan step → HasJournal plan step sizes → IfSome next (λ len. (sizes_after (call_of plan step).change sizes).journal ≡ len)) (sym is)
+    (λ valid here. body_len_after plan at next sizes valid.1 next_is here) valid here

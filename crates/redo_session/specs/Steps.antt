@@ -1,7 +1,8 @@
 -- Where a session stands: the call that comes next, and all that are left.
-use Rattle.std.specs.Prelude.{◌≡◌, ℕ, ◌+◌, ◌-◌, ◌*◌, ◌<◌, ◌≤◌, min, Bool, Option, None, Some, replicate, take, drop, List, [], ◌∷◌, ◌++◌, length, slice_index_or}
+use Rattle.std.specs.Prelude.{◌≡◌, ℕ, ◌+◌, ◌-◌, ◌*◌, ◌<◌, ◌≤◌, min, Bool, true, false, Option, None, Some, IfSome, replicate, take, drop, List, [], ◌∷◌, ◌++◌, length, slice_index_or}
 use Rattle.std.specs.List.{flat_map}
 use Rattle.disk_defs.specs.Story.{Write, Cut}
+use Rattle.disk_defs.specs.Disk.{Sizes}
 use Rattle.disk_defs.specs.declared.Area.TheVariants.{Image, Journal}
 use Rattle.journal_defs.specs.Form.{first_journal, groups_of, journal_len}
 use Rattle.journal_defs.specs.declared.TheConstants.{OPEN_GATE, SET_MARK, GROUP_RANGES}
@@ -108,3 +109,12 @@ journal_at plan Arm = Some 0
 journal_at plan ArmSync = Some 1
 journal_at plan (Body at) = Some at
 journal_at plan _ = Some (journal_len plan)
+
+-- the journal has the length with which a step begins
+abbrev pub HasJournal : Plan → Step → Sizes → Type 0
+HasJournal plan step sizes = IfSome (journal_at plan step) (λ len. sizes.journal ≡ len)
+
+-- a step that makes a call
+abbrev pub makes_call : Step → Bool
+makes_call End = false
+makes_call _ = true

@@ -1,8 +1,10 @@
 //! Which call of a session comes next.
-ghost use Rattle.std.specs.Prelude.{◌≡◌, ◌≢◌, ◌≤◌, ◌<◌, ◌∷◌, length};
+ghost use Rattle.std.specs.Prelude.{◌≡◌, ◌≢◌, ◌≤◌, ◌<◌, ◌+◌, ◌∷◌, Some, length, min};
 ghost use Rattle.journal_defs.specs.Form.{groups_of, journal_len};
 ghost use Rattle.rx_ranges.specs.PlanChecks.{IsPlan};
-ghost use Rattle.redo_session.specs.Steps.{IsStep, call_of, claim_at, group_end, left, left_from_byte, left_from_group, left_from_range};
+ghost use Rattle.disk_defs.specs.Disk.{Sizes, sizes_after};
+ghost use Rattle.session_defs.specs.declared.TheConstants.{PIECE};
+ghost use Rattle.redo_session.specs.Steps.{HasJournal, IsStep, call_of, group_end, journal_at, left, left_from_byte, left_from_group, left_from_range};
 
 use journal_defs::GROUP_RANGES;
 use rx_ranges::Plan;
@@ -64,6 +66,7 @@ fn next_body(plan: &Plan, marks: &[bool], len: u64, at: u64) -> Step
     requires len { len ≡ journal_len plan.now }
     requires step { IsStep plan.now (Step.Body at) }
     ensures step { IsStep plan.now result }
+    ensures journal { journal_at plan.now result ≡ Some (min (at + PIECE) (journal_len plan.now)) }
     ensures left { left_from_byte plan.now marks.now at ≡ call_of plan.now (Step.Body at) ∷ left plan.now marks.now result }
 {
     if len - at <= PIECE as u64 {
@@ -90,6 +93,7 @@ fn next_range(plan: &Plan, marks: &[bool], group: usize, range: usize) -> Step
     requires group { group < groups_of plan.now }
     requires range { range ≤ group_end plan.now group }
     ensures step { IsStep plan.now result }
+    ensures journal { journal_at plan.now result ≡ Some (journal_len plan.now) }
     ensures left { left plan.now marks.now result ≡ left_from_range plan.now marks.now group range }
 {
     if range >= group_end(plan, group) {
@@ -107,6 +111,7 @@ fn next_fill(plan: &Plan, marks: &[bool], group: usize, range: usize, done: u64)
     requires plan { IsPlan plan.now }
     requires step { IsStep plan.now (Step.Fill group range done) }
     ensures step { IsStep plan.now result }
+    ensures journal { journal_at plan.now result ≡ Some (journal_len plan.now) }
     ensures left { left plan.now marks.now (Step.Fill group range done) ≡ call_of plan.now (Step.Fill group range done) ∷ left plan.now marks.now result }
 {
     let claim = plan.ranges.items()[range];
@@ -126,6 +131,7 @@ pub(crate) fn next_group(plan: &Plan, marks: &[bool], first: usize) -> Step
     requires marks { length marks.now ≡ groups_of plan.now }
     requires first { first ≤ length marks.now }
     ensures step { IsStep plan.now result }
+    ensures journal { journal_at plan.now result ≡ Some (journal_len plan.now) }
     ensures left { left plan.now marks.now result ≡ left_from_group plan.now marks.now first }
 {
     let mut group = first;
@@ -146,6 +152,7 @@ pub(crate) fn next(plan: &Plan, marks: &[bool], len: u64, step: Step) -> Step
     requires step { IsStep plan.now step }
     requires more { step ≢ Step.End }
     ensures step { IsStep plan.now result }
+    ensures sizes { (sizes : Sizes) → HasJournal plan.now step sizes → HasJournal plan.now result (sizes_after (call_of plan.now step).change sizes) }
     ensures left { left plan.now marks.now step ≡ call_of plan.now step ∷ left plan.now marks.now result }
 {
     match step {

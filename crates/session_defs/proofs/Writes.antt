@@ -3,7 +3,7 @@ use Rattle.std.proofs.Common.{◌≡◌, ℕ, suc, ◌+◌, ◌-◌, ◌<◌, mi
 use Rattle.std.proofs.lemmas.List.{take-replicate, take_min, length-replicate}
 use Rattle.disk_defs.specs.Story.{Write}
 use Rattle.disk_defs.specs.declared.Area.{Area}
-use Rattle.session_defs.specs.Script.{Call, pieces_in, write_pieces, writes}
+use Rattle.session_defs.specs.Script.{pieces_in, write_pieces, writes}
 use Rattle.session_defs.specs.declared.TheConstants.{PIECE}
 use Rattle.session_defs.specs.declared.Turn.{Turn}
 

@@ -1,2 +1,3 @@
 pub mod Script
 pub mod Session
+pub mod Outcome

@@ -1,0 +1,90 @@
+-- Laws of sessions: which call comes next, and what a session is behind it.
+use Rattle.std.proofs.Common.{◌≡◌, ℕ, suc, ◌+◌, ◌-◌, ◌≤◌, Bool, false, Option, Some, Result, Ok, Err, List, [], ◌∷◌, length, drop, slice_get, refl, sym, ◌∙◌, ap, subst, arith, length-drop}
+use Rattle.std.proofs.lemmas.List.{drop-drop}
+use Rattle.disk_defs.specs.Story.{Change, Write, Cut, Sync}
+use Rattle.disk_defs.specs.Disk.{Sizes, State, sizes_after, state_after}
+use Rattle.disk_defs.specs.Count.{Faults}
+use Rattle.disk_defs.specs.declared.Area.TheVariants.{Image, Journal}
+use Rattle.rx_ranges.specs.declared.plan.Plan.{Plan}
+use Rattle.session_defs.specs.Script.{Call}
+use Rattle.session_defs.specs.Session.{SessionValue, Start, HasSizes, calls_of, next_call, IsChangeCounted}
+use Rattle.redo_session.specs.Steps.{left, HasJournal, IsStep, journal_at}
+use Rattle.redo_session.specs.Sessions.{IsSession, start_of, made_at, session_of}
+use Rattle.redo_session.specs.declared.step.Step.{Step}
+
+-- an item stands where the rest of a list begins with it
+item_at : {X : Type 0} (xs : List X) (n : ℕ) (x : X) (rest : List X) → drop n xs ≡ x ∷ rest → slice_get xs n ≡ Some x
+item_at [] Prim.Native.Nat.zero x rest is = cc
+item_at [] (suc n) x rest is = cc
+item_at (y ∷ xs) Prim.Native.Nat.zero x rest is = cc
+item_at (y ∷ xs) (suc n) x rest is = item_at xs n x rest is
+
+module _ (plan : Plan) (resumed : Option Bool) (marks : List Bool) (len : ℕ) (step next : Step) (room : ℕ) (call : Call)
+    (session : IsSession plan resumed marks len step room) (first : left plan marks step ≡ call ∷ left plan marks next) where
+  calls : List Call
+  calls = calls_of plan (start_of resumed marks)
+
+  -- the call that comes next is the first of those that are left
+  pub next_is : (before : SessionValue) → session_of plan resumed marks step false ≡ before → next_call before ≡ Some call
+  next_is before is =
+      ap next_call (sym is) ∙ item_at (calls_of plan (start_of resumed marks)) (made_at plan resumed marks step) call (left plan marks next) (session.calls ∙ first)
+
+  -- one more call was made
+  pub made_more : made_at plan resumed marks next ≡ made_at plan resumed marks step + 1
+  made_more = omega (
+    arith,
+    ap length first,
+    ap length session.calls,
+    length-drop (made_at plan resumed marks step) (calls_of plan (start_of resumed marks)),
+  )
+
+  -- the session behind it
+  pub session_more : IsStep plan next → IsSession plan resumed marks len next room
+  session_more is_step = record {
+    is_plan = session.is_plan;
+    groups = session.groups;
+    len_is = session.len_is;
+    is_step = is_step;
+    calls = ap (λ n. drop n (calls_of plan (start_of resumed marks))) made_more
+        ∙ sym (drop-drop 1 (made_at plan resumed marks step) (calls_of plan (start_of resumed marks))) ∙ ap (drop 1) (session.calls ∙ first);
+    has_room = session.has_room;
+  }
+
+  pub value_more : (before : SessionValue) → session_of plan resumed marks step false ≡ before
+      → session_of plan resumed marks next false ≡ record before { made = before.made + 1; journal = journal_at plan next }
+  value_more before is =
+      ap (λ made. record (session_of plan resumed marks next false) { made = made }) made_more
+      ∙ ap (λ (value : SessionValue). record value { made = value.made + 1; journal = journal_at plan next }) is
+
+-- what a change counts, whatever it answers where it succeeds, and where it fails
+pub counted_ok : {T U : Type 0} (E F : Type 0) (change : Change) (x : T) (y : U) (before now : Faults)
+    → IsChangeCounted {T = T} {E = E} change (Ok x) before now → IsChangeCounted {T = U} {E = F} change (Ok y) before now
+counted_ok E F (Write Image at bytes) x y before now counted = counted
+counted_ok E F (Write Journal at bytes) x y before now counted = counted
+counted_ok E F (Cut len) x y before now counted = counted
+counted_ok E F Sync x y before now counted = counted
+
+pub counted_err : {E F : Type 0} (T U : Type 0) (change : Change) (x : E) (y : F) (before now : Faults)
+    → IsChangeCounted {T = T} {E = E} change (Err x) before now → IsChangeCounted {T = U} {E = F} change (Err y) before now
+counted_err T U (Write Image at bytes) x y before now counted = counted
+counted_err T U (Write Journal at bytes) x y before now counted = counted
+counted_err T U (Cut len) x y before now counted = counted
+counted_err T U Sync x y before now counted = counted
+
+image_stays : (change : Change) (sizes : Sizes) → (sizes_after change sizes).image ≡ sizes.image
+image_stays (Write Image at bytes) sizes = refl
+image_stays (Write Journal at bytes) sizes = refl
+image_stays (Cut len) sizes = refl
+image_stays Sync sizes = refl
+
+-- the sizes behind a call are those with which the session goes on
+pub sizes_more : (plan : Plan) (resumed : Option Bool) (marks : List Bool) (step next : Step) (ended : Bool) (change : Change) (before : SessionValue) (old new : State)
+    → session_of plan resumed marks step false ≡ before → HasSizes before old → new ≡ state_after change old
+    → ((sizes : Sizes) → HasJournal plan step sizes → HasJournal plan next (sizes_after change sizes)) → HasSizes (session_of plan resumed marks next ended) new
+sizes_more plan resumed marks step next ended change before old new is sizes made more =
+    let here = subst (λ (value : SessionValue). HasSizes value old) (sym is) sizes in
+    let same : new.sizes ≡ sizes_after change old.sizes = ap (λ (state : State). state.sizes) made in
+    record {
+      image = ap (λ (sizes : Sizes). sizes.image) same ∙ image_stays change old.sizes ∙ here.image;
+      journal = subst (λ (sizes : Sizes). HasJournal plan next sizes) (sym same) (more old.sizes here.journal);
+    }

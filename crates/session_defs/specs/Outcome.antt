@@ -1,0 +1,51 @@
+-- What the calls of a session leave: the image with its ranges filled, and the journal with all marks.
+use Rattle.std.specs.Prelude.{◌≡◌, ℕ, ◌+◌, Bool, true, false, Option, None, Some, replicate, List, [], ◌∷◌, ◌++◌, length}
+use Rattle.disk_defs.specs.Story.{Held, Change, changed}
+use Rattle.journal_defs.specs.Form.{IsJournal, groups_of, journal_bytes}
+use Rattle.journal_defs.specs.declared.TheConstants.{OPEN_GATE, SET_MARK}
+use Rattle.range_defs.specs.declared.Claim.{Claim}
+use Rattle.range_defs.specs.Claims.{painted}
+use Rattle.rx_ranges.specs.PlanChecks.{IsPlan}
+use Rattle.rx_ranges.specs.declared.plan.Plan.{Plan}
+use Rattle.session_defs.specs.Script.{ranges_of_group, script, rest_of, changes_of}
+
+-- the fill that a byte has by its paint, or else the byte itself
+abbrev pub filled_byte : Option (ℕ × ℕ) → ℕ → ℕ
+filled_byte None byte = byte
+filled_byte (Some paint) byte = paint.1
+
+-- the bytes of an image from a place on, with those filled that claims have
+unfoldable pub filled_from : List Claim → ℕ → List ℕ → List ℕ
+filled_from claims at [] = []
+filled_from claims at (byte ∷ bytes) = filled_byte (painted claims at) byte ∷ filled_from claims (at + 1) bytes
+
+-- an image with the bytes filled that claims have, and each other byte as it was
+abbrev pub filled : List Claim → List ℕ → List ℕ
+filled claims image = filled_from claims 0 image
+
+-- the ranges of the groups from a number on that aren't marked
+abbrev pub unmarked_ranges : Plan → ℕ → List Bool → List Claim
+unmarked_ranges plan group [] = []
+unmarked_ranges plan group (true ∷ marks) = unmarked_ranges plan (group + 1) marks
+unmarked_ranges plan group (false ∷ marks) = ranges_of_group plan group ++ unmarked_ranges plan (group + 1) marks
+
+-- the journal of a plan that was carried out: its gate is open, and all marks are set
+abbrev pub done_journal : Plan → List ℕ
+done_journal plan = journal_bytes OPEN_GATE plan (replicate (groups_of plan) SET_MARK) SET_MARK
+
+-- what both areas hold after these changes, one after the other
+abbrev pub changed_all : List Change → Held → Held
+changed_all [] held = held
+changed_all (change ∷ changes) held = changed_all changes (changed change held)
+
+-- All calls of a plan leave the image with the ranges of the plan filled, and the journal of the plan with all marks.
+abbrev pub ScriptLaw : Type 0
+ScriptLaw = (plan : Plan) (first : Held) → IsPlan plan → length first.image ≡ plan.image_len
+    → changed_all (changes_of (script plan)) first ≡ record { image = filled plan.ranges first.image; journal = done_journal plan }
+
+-- The calls that are left where the journal stood open with some marks leave the image with the ranges of the other groups
+-- filled, and the journal with all marks, where not all were set before. Where all were, there is no call.
+abbrev pub RestLaw : Type 0
+RestLaw = (plan : Plan) (groups : List Bool) (last : Bool) (first : Held) → IsPlan plan → length first.image ≡ plan.image_len
+    → IsJournal first.journal plan groups last
+    → changed_all (changes_of (rest_of plan groups last)) first ≡ record { image = filled (unmarked_ranges plan 0 groups) first.image; journal = done_journal plan }
