@@ -1,16 +1,22 @@
 -- Laws of sessions: which call comes next, and what a session is behind it.
-use Rattle.std.proofs.Common.{◌≡◌, ℕ, suc, ◌+◌, ◌-◌, ◌≤◌, Bool, false, Option, Some, Result, Ok, Err, List, [], ◌∷◌, length, drop, slice_get, refl, sym, ◌∙◌, ap, subst, arith, length-drop}
+use Rattle.std.proofs.Common.{◌≡◌, ℕ, suc, ◌+◌, ◌-◌, ◌≤◌, Bool, true, false, if◌then◌else◌, Option, Some, Result, Ok, Err, List, [], ◌∷◌, ◌++◌, length, drop, slice_get, refl, sym, ◌∙◌, ap, subst, arith, length-drop, append_assoc}
 use Rattle.std.proofs.lemmas.List.{drop-drop}
 use Rattle.disk_defs.specs.Story.{Change, Write, Cut, Sync}
 use Rattle.disk_defs.specs.Disk.{Sizes, State, sizes_after, state_after}
 use Rattle.disk_defs.specs.Count.{Faults}
 use Rattle.disk_defs.specs.declared.Area.TheVariants.{Image, Journal}
 use Rattle.rx_ranges.specs.declared.plan.Plan.{Plan}
-use Rattle.session_defs.specs.Script.{Call}
-use Rattle.session_defs.specs.Session.{SessionValue, Start, HasSizes, calls_of, next_call, IsChangeCounted}
-use Rattle.redo_session.specs.Steps.{left, HasJournal, IsStep, journal_at}
+use Rattle.journal_defs.specs.Form.{first_journal, groups_of, journal_len}
+use Rattle.journal_defs.specs.declared.TheConstants.{OPEN_GATE}
+use Rattle.rx_ranges.specs.PlanChecks.{IsPlan}
+use Rattle.session_defs.specs.declared.TheConstants.{PIECE}
+use Rattle.session_defs.specs.declared.Turn.TheVariants.{Cleared, Armed, Wrote, Opened}
+use Rattle.session_defs.specs.Script.{Call, sync, byte_call, writes, journal_calls, unmarked_calls, closing_calls, unmarked, is_complete, script, rest_of}
+use Rattle.session_defs.specs.Session.{SessionValue, Start, HasSizes, new_session, calls_of, next_call, IsChangeCounted}
+use Rattle.redo_session.specs.Steps.{left, left_from_group, HasJournal, IsStep, journal_at}
 use Rattle.redo_session.specs.Sessions.{IsSession, start_of, made_at, session_of}
 use Rattle.redo_session.specs.declared.step.Step.{Step}
+use Rattle.redo_session.specs.declared.step.Step.TheVariants.{Clear}
 
 -- an item stands where the rest of a list begins with it
 item_at : {X : Type 0} (xs : List X) (n : ℕ) (x : X) (rest : List X) → drop n xs ≡ x ∷ rest → slice_get xs n ≡ Some x
@@ -88,3 +94,44 @@ sizes_more plan resumed marks step next ended change before old new is sizes mad
       image = ap (λ (sizes : Sizes). sizes.image) same ∙ image_stays change old.sizes ∙ here.image;
       journal = subst (λ (sizes : Sizes). HasJournal plan next sizes) (sym same) (more old.sizes here.journal);
     }
+
+-- ---- sessions before their first turn
+
+-- no call was made where all are left
+none_made : (plan : Plan) (resumed : Option Bool) (marks : List Bool) (step : Step) → left plan marks step ≡ calls_of plan (start_of resumed marks)
+    → made_at plan resumed marks step ≡ 0
+none_made plan resumed marks step all = omega (arith, ap length all)
+
+pub new_is : (plan : Plan) (resumed : Option Bool) (marks : List Bool) (len : ℕ) (step : Step) (room : ℕ) → IsPlan plan → length marks ≡ groups_of plan → len ≡ journal_len plan
+    → IsStep plan step → left plan marks step ≡ calls_of plan (start_of resumed marks) → room ≡ PIECE → IsSession plan resumed marks len step room
+new_is plan resumed marks len step room is_plan groups len_is is_step all has_room = record {
+  is_plan = is_plan;
+  groups = groups;
+  len_is = len_is;
+  is_step = is_step;
+  calls = ap (λ n. drop n (calls_of plan (start_of resumed marks))) (none_made plan resumed marks step all) ∙ sym all;
+  has_room = has_room;
+}
+
+pub new_value : (plan : Plan) (resumed : Option Bool) (marks : List Bool) (step : Step) (journal : Option ℕ) → journal_at plan step ≡ journal
+    → left plan marks step ≡ calls_of plan (start_of resumed marks) → session_of plan resumed marks step false ≡ new_session plan (start_of resumed marks) journal
+new_value plan resumed marks step journal len all =
+    ap (λ made. record (session_of plan resumed marks step false) { made = made }) (none_made plan resumed marks step all)
+    ∙ ap (new_session plan (start_of resumed marks)) len
+
+-- before the first turn all calls of the plan are left
+pub script_left : (plan : Plan) (marks : List Bool) → marks ≡ unmarked plan → left plan marks Clear ≡ script plan
+unfolding journal_calls
+script_left plan marks none =
+    let body = writes Wrote Journal 1 (drop 1 (first_journal plan)) in
+    ap (λ marks. left plan marks Clear) none
+    ∙ ap (λ calls. record { turn = Cleared; change = Cut 0 } ∷ sync ∷ byte_call Armed 0 0 ∷ sync ∷ calls)
+    (sym (append_assoc body (sync ∷ byte_call Opened 0 OPEN_GATE ∷ sync ∷ []) (unmarked_calls plan 0 (unmarked plan) ++ closing_calls plan))
+    ∙ sym (append_assoc (body ++ sync ∷ byte_call Opened 0 OPEN_GATE ∷ sync ∷ []) (unmarked_calls plan 0 (unmarked plan)) (closing_calls plan)))
+
+-- where all marks are set no call is left
+pub none_left : (plan : Plan) (groups : List Bool) (last : Bool) → is_complete groups last ≡ true → [] ≡ rest_of plan groups last
+none_left plan groups last complete = ap (λ (all : Bool). if all then [] else (unmarked_calls plan 0 groups ++ closing_calls plan)) (sym complete)
+
+pub some_left : (plan : Plan) (groups : List Bool) (last : Bool) → is_complete groups last ≡ false → left_from_group plan groups 0 ≡ rest_of plan groups last
+some_left plan groups last unset = ap (λ (all : Bool). if all then [] else (unmarked_calls plan 0 groups ++ closing_calls plan)) (sym unset)

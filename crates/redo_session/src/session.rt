@@ -1,11 +1,15 @@
 //! A session: a plan that is carried out, one call a turn.
-ghost use Rattle.std.specs.Prelude.{◌≡◌, ◌≢◌, None, Some, Ok, Err, IfOk, IfSome, IsTrue, OnOk, length};
+ghost use Rattle.std.specs.Prelude.{◌≡◌, ◌≢◌, None, Some, false, IfOk, IfSome, OnOk, length, replicate, vec_len};
+ghost use Rattle.std.specs.List.{list_all};
 ghost use Rattle.journal_defs.specs.Form.{groups_of, journal_len};
 ghost use Rattle.rx_ranges.specs.PlanChecks.{IsPlan};
 ghost use Rattle.session_defs.specs.Session.{Begun, Resumed, Running, Ended, HasSizes, IsAnswer, IsMade, IsTurnCounted, IsTurned, new_session, next_call};
+ghost use Rattle.session_defs.specs.declared.TheConstants.{PIECE};
+ghost use Rattle.session_defs.specs.Script.{is_complete, rest_of};
+ghost use Rattle.redo_session.specs.Steps.{IsStep, journal_at, left};
 
 use crate::NoMemory;
-use crate::call::make_call;
+use crate::call::{journal_len, make_call};
 use crate::step::{Step, next, next_group, turn_of};
 use rx_ranges::Plan;
 use rx_store::Store;
@@ -38,7 +42,93 @@ impl<'p> Model for Session<'p> {
     ghost invariant = { λ s. IsSession s.plan.now s.resumed s.marks.items s.len s.step (vec_len s.buffer) };
 }
 
+/// How many groups the ranges of a plan have.
+fn group_count(plan: &Plan) -> usize
+    requires { IsPlan plan.now }
+    ensures { result ≡ groups_of plan.now }
+{
+    (plan.ranges.items().len() + 63) / 64
+}
+
+/// So many marks, none of them set.
+fn unset_marks(alloc: Global, groups: usize) -> Result<Vec<bool>, NoMemory>
+    ensures { IfOk result (λ marks. marks.items ≡ replicate groups false) }
+{
+    vec![in alloc; false; groups]
+}
+
+/// Room for a piece.
+fn room_for_piece(alloc: Global) -> Result<Vec<u8>, NoMemory>
+    ensures { IfOk result (λ room. vec_len room ≡ PIECE) }
+{
+    vec![in alloc; 0; PIECE]
+}
+
+/// Whether these marks are all set.
+fn are_set(marks: &[bool]) -> bool
+    ensures { result ≡ list_all (λ mark. mark) marks.now }
+{
+    marks.iter().all(|mark| *mark)
+}
+
+/// Whether all marks of a journal are set.
+fn is_complete(groups: &[bool], last: bool) -> bool
+    ensures { result ≡ is_complete groups.now last }
+{
+    are_set(groups) && last
+}
+
+/// The step with which the groups that aren't marked are begun, or the end where all marks are set.
+fn first_step(plan: &Plan, groups: &[bool], last: bool) -> Step
+    requires plan { IsPlan plan.now }
+    requires groups { length groups.now ≡ groups_of plan.now }
+    ensures step { IsStep plan.now result }
+    ensures journal { journal_at plan.now result ≡ Some (journal_len plan.now) }
+    ensures left { left plan.now groups.now result ≡ rest_of plan.now groups.now last }
+{
+    if is_complete(groups, last) {
+        return Step::End;
+    }
+    next_group(plan, groups, 0)
+}
+
 impl<'p> Session<'p> {
+    /// A session that carries out a plan from the start. The image has the plan's length at each of its turns, and nobody else
+    /// writes to the store.
+    pub fn begin(alloc: Global, plan: &'p Plan) -> Result<Session<'p>, NoMemory>
+        requires { IsPlan plan.now }
+        ensures { IfOk result (λ session. session ≡ new_session plan.now Begun None) }
+    {
+        Ok(Session {
+            plan,
+            marks: unset_marks(alloc, group_count(plan))?,
+            resumed: None,
+            len: journal_len(plan),
+            step: Step::Clear,
+            has_ended: false,
+            buffer: room_for_piece(alloc)?,
+        })
+    }
+
+    /// A session that goes on with the plan of an open journal, which has these marks.
+    pub fn resume(alloc: Global, plan: &'p Plan, groups: &[bool], last: bool) -> Result<Session<'p>, NoMemory>
+        requires plan { IsPlan plan.now }
+        requires groups { length groups.now ≡ groups_of plan.now }
+        ensures { IfOk result (λ session. session ≡ new_session plan.now (Resumed groups.now last) (Some (journal_len plan.now))) }
+    {
+        let marks = Vec::from_slice(alloc, groups)?;
+        let step = first_step(plan, &marks, last);
+        Ok(Session {
+            plan,
+            marks,
+            resumed: Some(last),
+            len: journal_len(plan),
+            step,
+            has_ended: false,
+            buffer: room_for_piece(alloc)?,
+        })
+    }
+
     /// Makes the next call of the store. Each turn of a session makes one, and answers what it did; the turn behind the last
     /// call makes none and answers Finished. A session whose call failed, or that has finished, is over.
     pub fn turn<S: Store>(&mut self, store: &mut S) -> Result<Turn, TurnFault>
