@@ -5,7 +5,7 @@ ghost use Rattle.range_defs.specs.Places.{covers, longest_ranges};
 ghost use Rattle.rx_tree.specs.Within.{AreRangesWithin, AreFilesWithin};
 ghost use Rattle.rx_tree.specs.Order.{AreInVolumes};
 ghost use Rattle.rx_tree.specs.NameLimits.{has_few_names};
-ghost use Rattle.volume_defs.specs.FirstForm.{is_first_superblock, is_first_inode, is_first_root, is_first_entry, root_path, root_file, named_file, named_inodes};
+ghost use Rattle.volume_defs.specs.FirstForm.{is_first_superblock, is_first_inode, is_first_root, is_first_entry, root_path, bare_file, root_file, named_file, named_inodes};
 ghost use Rattle.volume_defs.specs.FoundFiles.{AreFilesOf};
 ghost use Rattle.volume_defs.specs.FirstReader.{inode_range};
 ghost use Rattle.volume_defs.specs.FirstTree.{whole_volume, tree_of};
@@ -19,12 +19,14 @@ use crate::form::{block_at, inode_at};
 use crate::names::names_of;
 use range_defs::Range;
 use rx_ranges::{NoMemory, RangeList, Text};
-use rx_tree::{FileEntry, FileId, Files, FsKind, Kind, Names, Part, Parts, Tree, Volume, Volumes};
+use rx_tree::{
+    FileEntry, FileId, Files, FsKind, Kind, NO_TIMES, Names, Part, Parts, Tree, Volume, Volumes,
+};
 use std::alloc::Global;
 use ufs_defs::inode::Inode;
 use ufs_defs::superblock::Superblock;
 
-/// A file with these names, and with its content as its one part.
+/// A file with these names, and with its content as its one part. The first form leaves out its mode, links, owner and times.
 fn file_with(
     alloc: Global,
     number: u64,
@@ -32,17 +34,17 @@ fn file_with(
     names: Names,
     content: Part,
 ) -> Result<FileEntry, NoMemory>
-    ensures { IfOk result (λ file. file ≡ record {
-      id = record { volume = 0; number = number };
-      kind = kind;
-      names = names;
-      parts = content ∷ [];
-    }) }
+    ensures { IfOk result (λ file. file ≡ bare_file number kind names content) }
 {
     Ok(FileEntry {
         id: FileId { volume: 0, number },
         kind,
         names,
+        mode: None,
+        links: None,
+        uid: None,
+        gid: None,
+        times: NO_TIMES,
         parts: Parts::from_vec(vec![in alloc; content]?),
     })
 }

@@ -1,5 +1,5 @@
 -- Small volumes, byte by byte, and what they say.
-use Rattle.std.specs.Prelude.{◌≡◌, ℕ, ◌+◌, ◌-◌, false, Result, Ok, Err, List, [], ◌∷◌, ◌++◌, length, replicate, refl, slice_set}
+use Rattle.std.specs.Prelude.{◌≡◌, ℕ, ◌+◌, ◌-◌, pos, negsuc, false, Some, None, Result, Ok, Err, List, [], ◌∷◌, ◌++◌, length, replicate, refl, slice_set}
 use Rattle.std.specs.Int.Count.{ones}
 use Rattle.range_defs.specs.declared.Range.{Range}
 use Rattle.range_defs.specs.Places.{longest_ranges}
@@ -16,7 +16,11 @@ use Rattle.fault_defs.specs.declared.Refusal.{Refusal}
 use Rattle.rx_tree.specs.TreeValue.{TreeValue}
 use Rattle.rx_tree.specs.declared.part.Role.TheVariants.{Content}
 use Rattle.rx_tree.specs.declared.file.FileEntry.{FileEntry}
+use Rattle.rx_tree.specs.declared.file.Kind.{Kind}
 use Rattle.rx_tree.specs.declared.file.Kind.TheVariants.{File, Dir, System}
+use Rattle.rx_tree.specs.PartValue.{PartValue}
+use Rattle.rx_tree.specs.declared.times.Times.{Times}
+use Rattle.rx_tree.specs.declared.times.TheConstants.{NO_TIMES}
 use Rattle.rx_tree.specs.declared.volume.FsKind.TheVariants.{HfsPlus}
 use Rattle.order_defs.specs.Sorted.{sorted_by_order}
 use Rattle.hfs_defs.specs.Header.{header_of, fork_of, wrong_field, is_block_size, volume_header}
@@ -37,6 +41,34 @@ use Rattle.fault_defs.specs.declared.What.TheVariants.{ExtentsFork}
 abbrev zeros_but : ℕ → ℕ → List (ℕ × List ℕ) → List ℕ
 zeros_but from size [] = replicate (size - from) 0
 zeros_but from size (written ∷ more) = replicate (written.0 - from) 0 ++ (written.1 ++ zeros_but (written.0 + length written.1) size more)
+
+-- a folder or a file with this mode, of owner and group 0 and without dates
+abbrev told : ℕ → Kind → List (List ℕ) → ℕ → List PartValue → FileEntry
+told number kind names mode parts = record {
+  id = record { volume = 0; number = number };
+  kind = kind;
+  names = names;
+  mode = Some mode;
+  links = None;
+  uid = Some 0;
+  gid = Some 0;
+  times = NO_TIMES;
+  parts = parts;
+}
+
+-- a special file
+abbrev special : ℕ → List ℕ → PartValue → FileEntry
+special number name part = record {
+  id = record { volume = 0; number = number };
+  kind = System;
+  names = name ∷ [];
+  mode = None;
+  links = None;
+  uid = None;
+  gid = None;
+  times = NO_TIMES;
+  parts = part ∷ [];
+}
 
 abbrev links_written : List (ℕ × List ℕ)
 links_written =
@@ -83,12 +115,12 @@ links_image = zeros_but 0 20480 links_written
 
 links_files : List FileEntry
 links_files =
-    record { id = record { volume = 0; number = 2 }; kind = Dir; names = (47 ∷ []) ∷ []; parts = [] }
-    ∷ record { id = record { volume = 0; number = 3 }; kind = System; names = (47 ∷ 92 ∷ 115 ∷ 51 ∷ []) ∷ []; parts = record { role = Content; name = []; size = 512; pieces = record { from = 0; len = 512; kind = Disk; at = 4096 } ∷ []; slack = []; unreadable = false } ∷ [] }
-    ∷ record { id = record { volume = 0; number = 4 }; kind = System; names = (47 ∷ 92 ∷ 115 ∷ 52 ∷ []) ∷ []; parts = record { role = Content; name = []; size = 3072; pieces = record { from = 0; len = 3072; kind = Disk; at = 5120 } ∷ []; slack = []; unreadable = false } ∷ [] }
-    ∷ record { id = record { volume = 0; number = 6 }; kind = System; names = (47 ∷ 92 ∷ 115 ∷ 54 ∷ []) ∷ []; parts = record { role = Content; name = []; size = 512; pieces = record { from = 0; len = 512; kind = Disk; at = 3072 } ∷ []; slack = []; unreadable = false } ∷ [] }
-    ∷ record { id = record { volume = 0; number = 16 }; kind = Dir; names = (47 ∷ 92 ∷ 120 ∷ 48 ∷ 48 ∷ 92 ∷ 120 ∷ 48 ∷ 48 ∷ 92 ∷ 120 ∷ 48 ∷ 48 ∷ 92 ∷ 120 ∷ 48 ∷ 48 ∷ 72 ∷ 70 ∷ 83 ∷ 43 ∷ 32 ∷ 80 ∷ 114 ∷ 105 ∷ 118 ∷ 97 ∷ 116 ∷ 101 ∷ 32 ∷ 68 ∷ 97 ∷ 116 ∷ 97 ∷ []) ∷ []; parts = [] }
-    ∷ record { id = record { volume = 0; number = 77 }; kind = File; names = (47 ∷ 112 ∷ []) ∷ (47 ∷ 113 ∷ []) ∷ []; parts = record { role = Content; name = []; size = 3; pieces = record { from = 0; len = 3; kind = Disk; at = 15360 } ∷ []; slack = record { at = 15363; len = 509 } ∷ []; unreadable = false } ∷ [] }
+    told 2 Dir ((47 ∷ []) ∷ []) 0x41ED []
+    ∷ special 3 (47 ∷ 92 ∷ 115 ∷ 51 ∷ []) (record { role = Content; name = []; size = 512; pieces = record { from = 0; len = 512; kind = Disk; at = 4096 } ∷ []; slack = []; unreadable = false })
+    ∷ special 4 (47 ∷ 92 ∷ 115 ∷ 52 ∷ []) (record { role = Content; name = []; size = 3072; pieces = record { from = 0; len = 3072; kind = Disk; at = 5120 } ∷ []; slack = []; unreadable = false })
+    ∷ special 6 (47 ∷ 92 ∷ 115 ∷ 54 ∷ []) (record { role = Content; name = []; size = 512; pieces = record { from = 0; len = 512; kind = Disk; at = 3072 } ∷ []; slack = []; unreadable = false })
+    ∷ told 16 Dir ((47 ∷ 92 ∷ 120 ∷ 48 ∷ 48 ∷ 92 ∷ 120 ∷ 48 ∷ 48 ∷ 92 ∷ 120 ∷ 48 ∷ 48 ∷ 92 ∷ 120 ∷ 48 ∷ 48 ∷ 72 ∷ 70 ∷ 83 ∷ 43 ∷ 32 ∷ 80 ∷ 114 ∷ 105 ∷ 118 ∷ 97 ∷ 116 ∷ 101 ∷ 32 ∷ 68 ∷ 97 ∷ 116 ∷ 97 ∷ []) ∷ []) 0x41ED []
+    ∷ told 77 File ((47 ∷ 112 ∷ []) ∷ (47 ∷ 113 ∷ []) ∷ []) 0x81A4 (record { role = Content; name = []; size = 3; pieces = record { from = 0; len = 3; kind = Disk; at = 15360 } ∷ []; slack = record { at = 15363; len = 509 } ∷ []; unreadable = false } ∷ [])
     ∷ []
 
 links_guard : List Range
@@ -118,8 +150,8 @@ plain_written =
     ∷ (6179, 2 ∷ [])
     ∷ (6210, 65 ∷ 237 ∷ [])
     ∷ (6257, 8 ∷ 0 ∷ 0 ∷ 0 ∷ 2 ∷ 0 ∷ 1 ∷ 0 ∷ 97 ∷ 0 ∷ 2 ∷ [])
-    ∷ (6277, 16 ∷ [])
-    ∷ (6308, 129 ∷ 164 ∷ [])
+    ∷ (6277, 16 ∷ 124 ∷ 37 ∷ 176 ∷ 128 ∷ 124 ∷ 37 ∷ 176 ∷ 129 ∷ 0 ∷ 0 ∷ 0 ∷ 1 ∷ [])
+    ∷ (6300, 1 ∷ 245 ∷ 0 ∷ 0 ∷ 0 ∷ 20 ∷ 0 ∷ 0 ∷ 129 ∷ 164 ∷ [])
     ∷ (6361, 3 ∷ [])
     ∷ (6369, 1 ∷ 0 ∷ 0 ∷ 0 ∷ 30 ∷ 0 ∷ 0 ∷ 0 ∷ 1 ∷ [])
     ∷ (6515, 8 ∷ 0 ∷ 0 ∷ 0 ∷ 2 ∷ 0 ∷ 1 ∷ 0 ∷ 112 ∷ 0 ∷ 2 ∷ [])
@@ -132,14 +164,23 @@ plain_written =
 unfoldable plain_image : List ℕ
 plain_image = zeros_but 0 20480 plain_written
 
+-- modified one second after 1970 began, changed one second after 1904 began, never read, and made when 1970 began
+abbrev dated : Times
+dated = record {
+  modified = Some (record { seconds = pos 1 });
+  changed = Some (record { seconds = negsuc 2082844798 });
+  accessed = None;
+  created = Some (record { seconds = pos 0 });
+}
+
 plain_files : List FileEntry
 plain_files =
-    record { id = record { volume = 0; number = 2 }; kind = Dir; names = (47 ∷ []) ∷ []; parts = [] }
-    ∷ record { id = record { volume = 0; number = 3 }; kind = System; names = (47 ∷ 92 ∷ 115 ∷ 51 ∷ []) ∷ []; parts = record { role = Content; name = []; size = 512; pieces = record { from = 0; len = 512; kind = Disk; at = 4096 } ∷ []; slack = []; unreadable = false } ∷ [] }
-    ∷ record { id = record { volume = 0; number = 4 }; kind = System; names = (47 ∷ 92 ∷ 115 ∷ 52 ∷ []) ∷ []; parts = record { role = Content; name = []; size = 2048; pieces = record { from = 0; len = 2048; kind = Disk; at = 5120 } ∷ []; slack = []; unreadable = false } ∷ [] }
-    ∷ record { id = record { volume = 0; number = 6 }; kind = System; names = (47 ∷ 92 ∷ 115 ∷ 54 ∷ []) ∷ []; parts = record { role = Content; name = []; size = 512; pieces = record { from = 0; len = 512; kind = Disk; at = 3072 } ∷ []; slack = []; unreadable = false } ∷ [] }
-    ∷ record { id = record { volume = 0; number = 16 }; kind = File; names = (47 ∷ 97 ∷ []) ∷ []; parts = record { role = Content; name = []; size = 3; pieces = record { from = 0; len = 3; kind = Disk; at = 15360 } ∷ []; slack = record { at = 15363; len = 509 } ∷ []; unreadable = false } ∷ [] }
-    ∷ record { id = record { volume = 0; number = 17 }; kind = File; names = (47 ∷ 112 ∷ []) ∷ []; parts = record { role = Content; name = []; size = 0; pieces = []; slack = []; unreadable = false } ∷ [] }
+    told 2 Dir ((47 ∷ []) ∷ []) 0x41ED []
+    ∷ special 3 (47 ∷ 92 ∷ 115 ∷ 51 ∷ []) (record { role = Content; name = []; size = 512; pieces = record { from = 0; len = 512; kind = Disk; at = 4096 } ∷ []; slack = []; unreadable = false })
+    ∷ special 4 (47 ∷ 92 ∷ 115 ∷ 52 ∷ []) (record { role = Content; name = []; size = 2048; pieces = record { from = 0; len = 2048; kind = Disk; at = 5120 } ∷ []; slack = []; unreadable = false })
+    ∷ special 6 (47 ∷ 92 ∷ 115 ∷ 54 ∷ []) (record { role = Content; name = []; size = 512; pieces = record { from = 0; len = 512; kind = Disk; at = 3072 } ∷ []; slack = []; unreadable = false })
+    ∷ record (told 16 File ((47 ∷ 97 ∷ []) ∷ []) 0x81A4 (record { role = Content; name = []; size = 3; pieces = record { from = 0; len = 3; kind = Disk; at = 15360 } ∷ []; slack = record { at = 15363; len = 509 } ∷ []; unreadable = false } ∷ [])) { uid = Some 501; gid = Some 20; times = dated }
+    ∷ told 17 File ((47 ∷ 112 ∷ []) ∷ []) 0x81A4 (record { role = Content; name = []; size = 0; pieces = []; slack = []; unreadable = false } ∷ [])
     ∷ []
 
 plain_guard : List Range

@@ -1,11 +1,14 @@
 -- The files of a volume: their names, and their forks as parts.
 use Rattle.std.specs.Prelude.{ℕ, ◌+◌, ◌*◌, Bool, false, not, ◌||◌, ◌==◌, if◌then◌else◌, bit_and, Option, Some, None, Result, Ok, Err, List, [], ◌∷◌, ◌++◌, decimal, codes}
 use Rattle.image_defs.specs.Runs.{with_value, each_result}
+use Rattle.rx_time.specs.Moments.{hfs_moment}
 use Rattle.rx_tree.specs.PartValue.{PartValue}
 use Rattle.rx_tree.specs.declared.part.Role.TheVariants.{Content}
 use Rattle.rx_tree.specs.declared.file.FileEntry.{FileEntry}
 use Rattle.rx_tree.specs.declared.file.Kind.{Kind}
 use Rattle.rx_tree.specs.declared.file.Kind.TheVariants.{File, Dir, Link, Other, System}
+use Rattle.rx_tree.specs.declared.times.Times.{Times}
+use Rattle.rx_tree.specs.declared.times.TheConstants.{NO_TIMES}
 use Rattle.order_defs.specs.Sorted.{sorted_names}
 use Rattle.hfs_defs.specs.Forks.{records_of, extents_with, fork_fault, pieces_of, slack_of}
 use Rattle.hfs_volume_defs.specs.Catalog.{Entry, FileInfo}
@@ -91,12 +94,26 @@ kind_of_bits bits = if bits == 0xA000 then Link else (if bits == 0 || bits == 0x
 abbrev pub kind_of_entry : Entry → Kind
 kind_of_entry entry = if is_folder entry then Dir else kind_of_bits (bit_and entry.mode 0xF000)
 
--- the file of an entry; its mode, owner, group and times are the entry's
+-- the times of an entry by its dates: the record is changed with the attributes
+abbrev pub times_of : Entry → Times
+times_of entry = record {
+  modified = hfs_moment entry.modified;
+  changed = hfs_moment entry.changed;
+  accessed = hfs_moment entry.accessed;
+  created = hfs_moment entry.created;
+}
+
+-- the file of an entry; HFS+ tells no number of links
 abbrev pub file_with : ℕ → NamedEntry → List PartValue → FileEntry
 file_with volume named parts = record {
   id = record { volume = volume; number = named.entry.id };
   kind = kind_of_entry named.entry;
   names = named.names;
+  mode = Some named.entry.mode;
+  links = None;
+  uid = Some named.entry.owner;
+  gid = Some named.entry.group;
+  times = times_of named.entry;
   parts = parts;
 }
 
@@ -125,12 +142,18 @@ special_files header =
 abbrev pub special_name : SpecialFile → List ℕ
 special_name special = codes "/\\s" ++ decimal special.number
 
+-- a special file has no catalog record, and so none of what that tells
 unfoldable pub special_file : ℕ → Header → List OverflowRecord → SpecialFile → Result FileEntry Refusal
 special_file volume header overflow special =
     with_value (λ part. record {
       id = record { volume = volume; number = special.number };
       kind = System;
       names = special_name special ∷ [];
+      mode = None;
+      links = None;
+      uid = None;
+      gid = None;
+      times = NO_TIMES;
       parts = part ∷ [];
     })
     (fork_part header overflow special.number 0 special.fork (header.at + 1024 + special.offset) false [])

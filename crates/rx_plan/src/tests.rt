@@ -7,7 +7,9 @@ use super::*;
 use rule_defs::{Action, Condition, Rule};
 use rx_ranges::{ListKind, NoMemory, Piece, PieceKind, Pieces, Text};
 use rx_store::MemStore;
-use rx_tree::{FileEntry, FileId, Files, FsKind, Kind, Names, Part, Parts, Role, Volume, Volumes};
+use rx_tree::{
+    FileEntry, FileId, Files, FsKind, Kind, NO_TIMES, Names, Part, Parts, Role, Volume, Volumes,
+};
 use std::test::Fail;
 
 /// The length of the image in these examples.
@@ -53,6 +55,11 @@ fn file(alloc: Global, number: u64, path: &str, part: Part) -> Result<FileEntry,
         id: FileId { volume: 1, number },
         kind: Kind::File,
         names: Names::from_vec(vec![in alloc; Text::from_str(alloc, path)?]?),
+        mode: None,
+        links: None,
+        uid: None,
+        gid: None,
+        times: NO_TIMES,
         parts: Parts::from_vec(vec![in alloc; part]?),
     })
 }

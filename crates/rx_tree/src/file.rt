@@ -4,6 +4,7 @@ ghost use Rattle.rx_tree.specs.Order.{HaveRisingIds};
 
 use crate::names::Names;
 use crate::part::Parts;
+use crate::times::Times;
 use std::marker::Model;
 
 /// Which file: its volume, and its number there (an inode, a record or a catalog id).
@@ -23,12 +24,18 @@ pub enum Kind {
     System,
 }
 
-/// A file with all its names and parts.
+/// A file with all its names and parts. Its mode, number of links, owner and group are None where the file system doesn't
+/// say them.
 #[derive(Debug, Drop)]
 pub struct FileEntry {
     pub id: FileId,
     pub kind: Kind,
     pub names: Names,
+    pub mode: Option<u16>,
+    pub links: Option<u16>,
+    pub uid: Option<u32>,
+    pub gid: Option<u32>,
+    pub times: Times,
     pub parts: Parts,
 }
 

@@ -23,14 +23,13 @@ use Rattle.rx_tree.specs.declared.volume.Volume.{Volume}
 use Rattle.rx_tree.specs.Path.{joined_path}
 use Rattle.rx_tree.specs.Within.{AreRangesWithin, ArePartsWithin, AreFilesWithin}
 use Rattle.rx_tree.specs.declared.file.FileEntry.{FileEntry}
-use Rattle.rx_tree.specs.declared.file.Kind.TheVariants.{File}
 use Rattle.ufs_defs.specs.Blocks.{block_place, content_of}
 use Rattle.ufs_defs.proofs.BlockLaws.{content_pieces_cover, content_pieces_plain}
 use Rattle.ufs_defs.proofs.SlackLaws.{content_within}
 use Rattle.ufs_defs.specs.Directory.{Entry}
 use Rattle.ufs_defs.specs.declared.superblock.Superblock.{Superblock}
 use Rattle.ufs_defs.specs.declared.inode.Inode.{Inode}
-use Rattle.volume_defs.specs.FirstForm.{is_first_superblock, is_first_inode, is_first_root, is_first_entry, is_first_name, paths_of, names_of, named_inodes, root_path, root_file, named_file}
+use Rattle.volume_defs.specs.FirstForm.{is_first_superblock, is_first_inode, is_first_root, is_first_entry, is_first_name, paths_of, names_of, named_inodes, root_path, root_file}
 use Rattle.volume_defs.specs.FirstReader.{inode_range, probe_places}
 use Rattle.volume_defs.specs.FirstRanges.{first_ranges}
 use Rattle.volume_defs.proofs.FirstRanges.{probes_within}
@@ -78,12 +77,6 @@ paths_of_other (first ∷ entries) entry number other = either (first.inode == n
         ≡ map (λ each. joined_path root_path each.name) (cond named (first ∷ filter (λ each. each.inode == number) entries) (filter (λ each. each.inode == number) entries))
     either true rest = ap (λ paths. joined_path root_path first.name ∷ paths) rest
     either false rest = rest
-
--- the file of these names and this content
-pub named_file_is : (superblock : Superblock) (entries : List Entry) (number : ℕ) (inode : Inode) (names : List (List ℕ)) (parts : List PartValue)
-    → names ≡ names_of entries number → parts ≡ content_of superblock inode ∷ []
-    → record { id = record { volume = 0; number = number }; kind = File; names = names; parts = parts } ≡ named_file superblock entries number inode
-named_file_is superblock entries number inode names parts same_names same_parts = rw (same_names, same_parts) refl
 
 -- ---- they lie in the image
 

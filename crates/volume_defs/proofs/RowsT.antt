@@ -9,6 +9,7 @@ use Rattle.rx_ranges.specs.declared.pieces.Piece.{Piece}
 use Rattle.rx_ranges.specs.declared.pieces.PieceKind.TheVariants.{Disk}
 use Rattle.rx_tree.specs.declared.part.Role.TheVariants.{Content}
 use Rattle.rx_tree.specs.declared.file.Kind.TheVariants.{File, Dir}
+use Rattle.rx_tree.specs.declared.times.TheConstants.{NO_TIMES}
 use Rattle.rx_tree.specs.declared.file.FileEntry.{FileEntry}
 use Rattle.rx_tree.specs.declared.volume.FsKind.TheVariants.{Ufs2}
 use Rattle.ufs_defs.specs.Superblock.{superblock_of, wrong_field, is_block_size, is_fragment_size, is_fragment_count, is_inode_count}
@@ -73,6 +74,11 @@ found_root = record {
   id = record { volume = 0; number = 2 };
   kind = Dir;
   names = (47 ∷ []) ∷ [];
+  mode = None;
+  links = None;
+  uid = None;
+  gid = None;
+  times = NO_TIMES;
   parts = record {
     role = Content;
     name = [];
@@ -89,6 +95,11 @@ found_file number names size pieces slack = record {
   id = record { volume = 0; number = number };
   kind = File;
   names = names;
+  mode = None;
+  links = None;
+  uid = None;
+  gid = None;
+  times = NO_TIMES;
   parts = record {
     role = Content;
     name = [];

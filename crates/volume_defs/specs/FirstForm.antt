@@ -5,7 +5,10 @@ use Rattle.std.specs.List.{filter, list_all}
 use Rattle.image_defs.specs.Ask.{Ask, Done, look, check, given, each, ◌>>=◌, ◌>>◌}
 use Rattle.rx_tree.specs.NameLimits.{has_few_names}
 use Rattle.rx_tree.specs.Path.{joined_path}
+use Rattle.rx_tree.specs.PartValue.{PartValue}
+use Rattle.rx_tree.specs.declared.times.TheConstants.{NO_TIMES}
 use Rattle.rx_tree.specs.declared.file.FileEntry.{FileEntry}
+use Rattle.rx_tree.specs.declared.file.Kind.{Kind}
 use Rattle.rx_tree.specs.declared.file.Kind.TheVariants.{File, Dir}
 use Rattle.rx_tree.specs.declared.volume.FsKind.{FsKind}
 use Rattle.rx_tree.specs.declared.volume.FsKind.TheVariants.{Ntfs, Ufs1, Ufs2, HfsPlus}
@@ -129,14 +132,23 @@ first_entries superblock root = do
 abbrev pub root_path : List ℕ
 root_path = 47 ∷ []
 
+-- a file with these names and its content; the first form leaves out its mode, links, owner and times
+abbrev pub bare_file : ℕ → Kind → List (List ℕ) → PartValue → FileEntry
+bare_file number kind names content = record {
+  id = record { volume = 0; number = number };
+  kind = kind;
+  names = names;
+  mode = None;
+  links = None;
+  uid = None;
+  gid = None;
+  times = NO_TIMES;
+  parts = content ∷ [];
+}
+
 -- the root as a file
 abbrev pub root_file : Superblock → Inode → FileEntry
-root_file superblock root = record {
-  id = record { volume = 0; number = 2 };
-  kind = Dir;
-  names = root_path ∷ [];
-  parts = content_of superblock root ∷ [];
-}
+root_file superblock root = bare_file 2 Dir (root_path ∷ []) (content_of superblock root)
 
 -- the paths of the entries that name an inode
 abbrev pub paths_of : List Entry → ℕ → List (List ℕ)
@@ -148,12 +160,7 @@ names_of entries number = sorted_names (paths_of entries number)
 
 -- the file of an inode that entries name
 abbrev pub named_file : Superblock → List Entry → ℕ → Inode → FileEntry
-named_file superblock entries number inode = record {
-  id = record { volume = 0; number = number };
-  kind = File;
-  names = names_of entries number;
-  parts = content_of superblock inode ∷ [];
-}
+named_file superblock entries number inode = bare_file number File (names_of entries number) (content_of superblock inode)
 
 -- the inodes that entries name, by rising number
 abbrev pub named_inodes : List Entry → List ℕ
