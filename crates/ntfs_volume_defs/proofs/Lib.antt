@@ -1,1 +1,2 @@
 pub mod VolumeRows
+mod TimesRows

@@ -3,6 +3,7 @@ use Rattle.std.specs.Prelude.{ℕ, Bool, true, false, ◌==◌, Option, Some, No
 use Rattle.range_defs.specs.declared.Range.{Range}
 use Rattle.image_defs.specs.Ask.{Ask, Done, given, each, ◌>>=◌}
 use Rattle.rx_tree.specs.PartValue.{PartValue}
+use Rattle.rx_tree.specs.declared.times.Times.{Times}
 use Rattle.ntfs_record_defs.specs.Attributes.{content_of}
 use Rattle.ntfs_record_defs.specs.Record.{FileRecord}
 use Rattle.ntfs_record_defs.specs.Stored.{count_from}
@@ -10,7 +11,7 @@ use Rattle.fault_defs.specs.declared.Refusal.{Refusal}
 use Rattle.ntfs_volume_defs.specs.Slots.{Mft, Slot, Empty, Unused, Used, slots, slot_of, is_directory}
 use Rattle.ntfs_volume_defs.specs.Segments.{Held}
 use Rattle.ntfs_volume_defs.specs.Names.{FoundName, file_names}
-use Rattle.ntfs_volume_defs.specs.Times.{FoundTimes, times_of}
+use Rattle.ntfs_volume_defs.specs.Times.{times_of}
 use Rattle.ntfs_volume_defs.specs.Parts.{parts_of}
 use Rattle.ntfs_volume_defs.specs.Lists.{Entry, ListContent, attributes_in, list_of, list_content, entries_of, named_attribute}
 
@@ -60,7 +61,7 @@ pub record FoundFile : Type 0 where
   pub links : ℕ
   pub directory : Bool
   pub names : List FoundName
-  pub times : Option FoundTimes
+  pub times : Times
   pub parts : List PartValue
   pub contents : List HeldContent
   pub lists : List Range
