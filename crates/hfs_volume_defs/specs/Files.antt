@@ -94,7 +94,7 @@ kind_of_bits bits = if bits == 0xA000 then Link else (if bits == 0 || bits == 0x
 abbrev pub kind_of_entry : Entry → Kind
 kind_of_entry entry = if is_folder entry then Dir else kind_of_bits (bit_and entry.mode 0xF000)
 
--- the times of an entry by its dates: the record is changed with the attributes
+-- the times of an entry; a date of 0 says none
 abbrev pub times_of : Entry → Times
 times_of entry = record {
   modified = hfs_moment entry.modified;
