@@ -1,5 +1,5 @@
 -- What is seen of a session, and what is so of each.
-use Rattle.std.specs.Prelude.{◌≡◌, ℕ, ◌-◌, Bool, true, false, Option, None, Some, drop, List, length}
+use Rattle.std.specs.Prelude.{◌≡◌, ℕ, ◌+◌, ◌-◌, Bool, true, false, Option, None, Some, drop, List, length}
 use Rattle.journal_defs.specs.Form.{groups_of, journal_len}
 use Rattle.rx_ranges.specs.PlanChecks.{IsPlan}
 use Rattle.rx_ranges.specs.declared.plan.Plan.{Plan}
@@ -39,3 +39,11 @@ pub record IsSession (plan : Plan) (resumed : Option Bool) (marks : List Bool) (
   pub is_step : IsStep plan step
   pub calls : drop (made_at plan resumed marks step) (calls_of plan (start_of resumed marks)) ≡ left plan marks step
   pub has_room : room ≡ PIECE
+
+-- how many turns a session has left: one for each call, and the one that finishes it
+abbrev pub turns_at : Stage → ℕ → ℕ
+turns_at Running calls = calls + 1
+turns_at Ended calls = 0
+
+abbrev pub turns_left : SessionValue → ℕ
+turns_left session = turns_at session.stage (length (calls_of session.plan session.start) - session.made)

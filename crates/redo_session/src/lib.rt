@@ -4,8 +4,10 @@
 mod call;
 mod session;
 mod step;
+mod whole;
 
 pub use session::Session;
+pub use whole::finish;
 
 /// Memory ran out.
 pub type NoMemory = std::alloc::AllocError;

@@ -7,6 +7,7 @@ ghost use Rattle.session_defs.specs.Session.{Begun, Resumed, Running, Ended, Has
 ghost use Rattle.session_defs.specs.declared.TheConstants.{PIECE};
 ghost use Rattle.session_defs.specs.Script.{is_complete, rest_of};
 ghost use Rattle.redo_session.specs.Steps.{IsStep, journal_at, left};
+ghost use Rattle.redo_session.specs.Sessions.{stage_of};
 
 use crate::NoMemory;
 use crate::call::{journal_len, make_call};
@@ -127,6 +128,13 @@ impl<'p> Session<'p> {
             has_ended: false,
             buffer: room_for_piece(alloc)?,
         })
+    }
+
+    /// Whether no turn is left: the session has finished, or a call of it failed.
+    pub fn is_over(&self) -> bool
+        ensures { stage_of result ≡ self.now.stage }
+    {
+        self.has_ended
     }
 
     /// Makes the next call of the store. Each turn of a session makes one, and answers what it did; the turn behind the last

@@ -1,8 +1,8 @@
 -- What contracts see of a session, and what a turn of it does.
-use Rattle.std.specs.Prelude.{◌≡◌, ℕ, ◌+◌, Bool, Option, None, Some, IfSome, Result, Ok, Err, List, slice_get}
+use Rattle.std.specs.Prelude.{◌≡◌, ℕ, ◌+◌, Bool, Option, None, Some, IfSome, Result, Ok, Err, List, slice_get, ◌≤◌, ◌⊎◌, take}
 use Rattle.disk_defs.specs.Story.{Change, Write, Cut, Sync}
-use Rattle.disk_defs.specs.Disk.{State, state_after, IsAfterFailed}
-use Rattle.disk_defs.specs.Count.{Faults, IsCountedIn, IsCountedInBoth}
+use Rattle.disk_defs.specs.Disk.{State, state_after, state_after_all, IsAfterFailed}
+use Rattle.disk_defs.specs.Count.{Faults, Rose, IsCountedIn, IsCountedInBoth}
 use Rattle.disk_defs.specs.declared.Area.TheVariants.{Journal}
 use Rattle.rx_ranges.specs.declared.plan.Plan.{Plan}
 use Rattle.session_defs.specs.Script.{Call, script, rest_of}
@@ -91,3 +91,15 @@ abbrev pub IsTurned : {T E : Type 0} → Option Call → Result T E → SessionV
 IsTurned None result before now = now ≡ record before { stage = Ended }
 IsTurned (Some call) (Ok answer) before now = now ≡ record before { made = before.made + 1; journal = now.journal }
 IsTurned (Some call) (Err fault) before now = now ≡ record before { stage = Ended }
+
+-- Of changes that were made one after the other, one failed: those before it were made, and this is what it left.
+abbrev pub IsStopped : List Change → State → State → Type 0
+IsStopped changes before now =
+    (made : ℕ) × (change : Change) × (slice_get changes made ≡ Some change) × IsLeft change (state_after_all (take made changes) before) now
+
+-- the counts of a store before and after a session: one that reached its end counts no fault, and one that was stopped comes
+-- only with one
+abbrev pub IsSessionCounted : {T E : Type 0} → Result T E → Faults → Faults → Type 0
+IsSessionCounted (Ok answer) before now = now ≡ before
+IsSessionCounted (Err error) before now =
+    (before.image ≤ now.image) × (before.journal ≤ now.journal) × (Rose before.image now.image ⊎ Rose before.journal now.journal)
