@@ -1,0 +1,23 @@
+//! Reads a journal and writes the first one of a plan.
+//!
+//! The form is that of `journal_defs`. `read_journal` answers the plan and the marks of a journal that stands open; NotOpen
+//! where it doesn't; and Bad with the place of the first check that fails. A journal's counts are tested against its size
+//! before memory is taken for them. `journal_piece` fills a buffer with the bytes of a plan's first journal from a place on, so
+//! that it is written in pieces.
+//!
+//!     let state = read_journal(alloc, &mut store)?;
+//!     state.fits(image_len)?;
+//!     if !state.complete() { .. }     // a group, or the whole, isn't marked yet
+#![tactic(auto)]
+
+mod fault;
+mod fields;
+mod ranges;
+mod state;
+
+pub use fault::JournalFault;
+pub use state::{JournalState, Marks};
+
+/// Memory ran out.
+pub type NoMemory = std::alloc::AllocError;
+
