@@ -12,6 +12,7 @@
 
 mod fault;
 mod fields;
+mod listing;
 mod ranges;
 mod state;
 
