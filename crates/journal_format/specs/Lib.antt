@@ -1,2 +1,3 @@
-pub mod Says
 pub mod Filled
+pub mod Header
+pub mod Says

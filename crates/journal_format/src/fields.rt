@@ -4,7 +4,8 @@ ghost use Rattle.std.specs.Str.{bytes_eq};
 ghost use Rattle.bytes_defs.specs.Bytes.{part};
 ghost use Rattle.journal_defs.specs.Checks as table;
 ghost use Rattle.journal_defs.specs.Form.{group_count};
-ghost use Rattle.journal_defs.specs.Reading.{image_len_in, range_count_in, line_count_in, body_len_in, listing_len_in, claim_in};
+ghost use Rattle.journal_defs.specs.Reading.{claim_in};
+ghost use Rattle.journal_format.specs.Header.{header_in};
 
 use bytes_defs::Order;
 use bytes_defs::field::{u32_at, u64_at};
@@ -26,11 +27,7 @@ impl Header {
     /// The numbers of the header that these bytes begin with.
     pub(crate) fn of(bytes: &[u8]) -> Header
         requires { 40 ≤ length bytes.now }
-        ensures image_len { result.image_len ≡ image_len_in bytes.now }
-        ensures ranges { result.ranges ≡ range_count_in bytes.now }
-        ensures lines { result.lines ≡ line_count_in bytes.now }
-        ensures body_len { result.body_len ≡ body_len_in bytes.now }
-        ensures listing_len { result.listing_len ≡ listing_len_in bytes.now }
+        ensures { result ≡ header_in bytes.now }
     {
         Header {
             image_len: u64_at(Order::Little, bytes, 8),
@@ -46,6 +43,21 @@ impl Header {
         ensures { result ≡ group_count self.now.ranges }
     {
         (u64::from(self.ranges) + 63) / 64
+    }
+
+    /// Where the listing begins.
+    pub(crate) fn listing(&self) -> u64
+        ensures { result ≡ 40 + 24 * self.now.ranges }
+    {
+        HEADER_LEN + RANGE_LEN * u64::from(self.ranges)
+    }
+
+    /// Where the listing ends.
+    pub(crate) fn listing_end(&self) -> u64
+        requires { self.now.listing_len ≤ MAX_LISTING_BYTES }
+        ensures { result ≡ 40 + 24 * self.now.ranges + self.now.listing_len }
+    {
+        self.listing() + self.listing_len
     }
 
     /// Whether the listing isn't too long, and ranges, listing and marks make the body.

@@ -10,6 +10,7 @@
 //!     if !state.complete() { .. }     // a group, or the whole, isn't marked yet
 #![tactic(auto)]
 
+mod decode;
 mod fault;
 mod fields;
 mod listing;
