@@ -1,21 +1,26 @@
 -- What the parts of a journal give for the whole.
-use Rattle.std.specs.Prelude.{◌≡◌, ℕ, ◌+◌, ◌-◌, ◌*◌, ◌^◌, ◌<◌, ◌≤◌, All, Bool, Option, None, Some, Result, Ok, Err, map, List, ◌++◌, length, slice_index, get_or}
+use Rattle.std.specs.Prelude.{◌≡◌, ℕ, ◌+◌, ◌-◌, ◌*◌, ◌<◌, ◌≤◌, All, Bool, Option, None, Some, IfSome, Result, Ok, Err, map, List, ◌++◌, length, take, drop, slice_index, get_or, refl}
 use Rattle.std.proofs.Common.{ap, sym, subst, ◌∙◌, arith, Fits, w8}
-use Rattle.std.proofs.lemmas.List.{append_assoc, length-map}
+use Rattle.std.proofs.lemmas.List.{append_assoc, drop-take, get_or-take, length-map, take_all, take-take}
 use Rattle.std.proofs.lemmas.List.Elements.{All-from_get_or}
+use Rattle.bytes_defs.proofs.NumberLaws.{number_at_part}
 use Rattle.bytes_defs.specs.Bytes.{part}
+use Rattle.bytes_defs.specs.declared.order.Order.TheVariants.{Little}
+use Rattle.disk_defs.specs.Count.{Faults}
 use Rattle.journal_defs.specs.Checks.{Check, first_failing, header_checks, ranges_checks, lines_checks, journal_checks, bad_at}
 use Rattle.journal_defs.specs.Form.{group_count, groups_of, is_set, journal_len, IsOpen, IsJournal}
-use Rattle.journal_defs.specs.Reading.{image_len_in, range_count_in, line_count_in, listing_len_in, listing_place, listing_end, claims_in, plan_in, groups_in, last_in}
+use Rattle.journal_defs.specs.Reading.{image_len_in, range_count_in, line_count_in, listing_place, listing_end, claims_in, plan_in, groups_in, last_in}
 use Rattle.journal_defs.proofs.Fields.{AreBytes}
 use Rattle.journal_defs.proofs.JournalLaws.{journal_written}
 use Rattle.journal_defs.proofs.Journals.{header_holds}
 use Rattle.journal_defs.proofs.Passing.{pass_all}
 use Rattle.journal_defs.proofs.Ranges.{ranges_written}
-use Rattle.journal_format.proofs.Steps.{fails_with, fails_behind}
-use Rattle.journal_format.specs.Says.{Says, IsState, FailsWith}
+use Rattle.journal_format.proofs.Steps.{fails_with}
+use Rattle.journal_format.specs.Says.{Says, Decodes, IsState, FailsWith, IsReadCounted}
 use Rattle.journal_format.specs.declared.fault.JournalFault.{JournalFault}
 use Rattle.journal_format.specs.declared.fault.JournalFault.TheVariants.{NotOpen, Bad, OtherLength, Device, NoMemory}
+use Rattle.journal_format.specs.declared.state.JournalState.{JournalState}
+use Rattle.journal_defs.specs.declared.TheConstants.{OPEN_GATE}
 use Rattle.range_defs.specs.Claims.{IsFillMap}
 use Rattle.range_defs.specs.Places.{EndsInReach}
 use Rattle.range_defs.specs.declared.Claim.{Claim}
@@ -55,11 +60,11 @@ lines_left bytes ranges lines listing_begin end count line_count begins ends pas
     ∙ ap (λ begin. first_failing (lines_checks bytes end begin (line_count_in bytes))) (sym begins) ∙ ap (λ count. first_failing (lines_checks bytes end listing_begin count)) (sym line_count)
 
 -- a fault of the checks of an open journal is one of the journal
-pub fault_says : (bytes : List ℕ) (fault : JournalFault) → IsOpen bytes → FailsWith (journal_checks bytes) fault → Says bytes (Err fault)
+pub fault_says : (bytes : List ℕ) (fault : JournalFault) → IsOpen bytes → FailsWith (journal_checks bytes) fault → Decodes bytes (Err fault)
 fault_says bytes NotOpen open_here fails = absurd fails
 fault_says bytes (Bad at) open_here fails = (open_here, fails)
 fault_says bytes (OtherLength kept found) open_here fails = fails
-fault_says bytes Device open_here fails = tt
+fault_says bytes Device open_here fails = fails
 fault_says bytes NoMemory open_here fails = tt
 
 -- ---- what passes
@@ -106,3 +111,87 @@ marks_read bytes at groups place count =
     let all : at + groups - at ≡ group_count (range_count_in bytes) = omega (arith, count) in
     let last : at + groups ≡ listing_end bytes + group_count (range_count_in bytes) = omega (arith, place, count) in
     (ap (λ count. map is_set (part bytes at count)) all ∙ ap (λ at. map is_set (part bytes at (group_count (range_count_in bytes)))) place, ap (λ at. is_set (slice_index bytes at)) last)
+
+-- ---- the header alone
+
+text_read : (bytes : List ℕ) → part (part bytes 0 40) 1 7 ≡ part bytes 1 7
+unfolding part
+text_read bytes = ap (take 7) (drop-take 1 39 bytes) ∙ take-take 7 39 (drop 1 bytes) (omega arith)
+
+-- a header is read from the first bytes as from all
+header_numbers : (bytes : List ℕ) (len : ℕ) → header_checks (part bytes 0 40) len ≡ header_checks bytes len
+unfolding header_checks
+header_numbers bytes len =
+    let text = text_read bytes in
+    let image_len = number_at_part Little 8 bytes 0 40 8 (omega arith) in
+    let ranges = number_at_part Little 4 bytes 0 40 16 (omega arith) in
+    let lines = number_at_part Little 4 bytes 0 40 20 (omega arith) in
+    let body = number_at_part Little 8 bytes 0 40 24 (omega arith) in
+    let listing = number_at_part Little 8 bytes 0 40 32 (omega arith) in
+    rw (text, image_len, ranges, lines, body, listing) refl
+
+-- the gate too
+pub gate_read : (bytes header : List ℕ) → header ≡ part bytes 0 40 → slice_index header 0 ≡ slice_index bytes 0
+unfolding part
+gate_read bytes header is = ap (λ header. slice_index header 0) is ∙ get_or-take 40 bytes 0 0 (omega arith)
+
+pub header_says : (bytes header : List ℕ) (len : ℕ) (fault : JournalFault) → length bytes ≡ len → header ≡ part bytes 0 40 → 41 ≤ len → slice_index header 0 ≡ OPEN_GATE
+    → FailsWith (header_checks header len) fault → Decodes bytes (Err fault)
+header_says bytes header len fault long is enough gate fails =
+    let P : List Check → Type 0 = λ checks. FailsWith checks fault in
+    let same : header_checks header len ≡ header_checks bytes (length bytes) = ap (λ header. header_checks header len) is ∙ header_numbers bytes len ∙ ap (header_checks bytes) (sym long) in
+    fault_says bytes fault (omega (arith, long, enough), sym (gate_read bytes header is) ∙ gate) (header_refuses bytes fault (subst P same fails))
+
+-- ---- an answer for which no call is made
+
+pub fails_calmly : (checks : List Check) (fault : JournalFault) → FailsWith checks fault → fault ≡ Device → ⊥
+fails_calmly checks fault fails is =
+    let P : JournalFault → Type 0 = λ fault. FailsWith checks fault in
+    subst P is fails
+
+pub counts_nothing : {X : Type 0} (result : Result X JournalFault) (before now : Faults) → (result ≡ Err Device → ⊥) → now ≡ before → IsReadCounted result before now
+counts_nothing (Ok value) before now calm same = same
+counts_nothing (Err NotOpen) before now calm same = same
+counts_nothing (Err (Bad at)) before now calm same = same
+counts_nothing (Err (OtherLength kept found)) before now calm same = same
+counts_nothing (Err Device) before now calm same = absurd (calm cc)
+counts_nothing (Err NoMemory) before now calm same = same
+
+-- a fault of the device isn't decoded
+pub decodes_calmly : (bytes : List ℕ) (result : Result JournalState JournalFault) → Decodes bytes result → result ≡ Err Device → ⊥
+decodes_calmly bytes result decodes is =
+    let P : Result JournalState JournalFault → Type 0 = Decodes bytes in
+    subst P is decodes
+
+says : (bytes : List ℕ) (result : Result JournalState JournalFault) → Decodes bytes result → Says bytes result
+says bytes (Ok state) decodes = decodes
+says bytes (Err NotOpen) decodes = decodes
+says bytes (Err (Bad at)) decodes = decodes
+says bytes (Err (OtherLength kept found)) decodes = decodes
+says bytes (Err Device) decodes = tt
+says bytes (Err NoMemory) decodes = tt
+
+-- what the bytes that were read decode to is what the answer says of the journal, where that is told
+pub decoded_told : (told later : Option (List ℕ)) (bytes : List ℕ) (result : Result JournalState JournalFault) → later ≡ told → IfSome later (λ journal. bytes ≡ journal) → Decodes bytes result
+    → IfSome told (λ journal. Says journal result)
+decoded_told None later bytes result same read decodes = tt
+decoded_told (Some journal) later bytes result same read decodes =
+    let P : Option (List ℕ) → Type 0 = λ told. IfSome told (λ journal. bytes ≡ journal) in
+    let Q : List ℕ → Type 0 = λ journal. Says journal result in
+    subst Q (subst P same read) (says bytes result decodes)
+
+-- a header that is refused refuses the journal, where that is told
+pub refused_told : (told later : Option (List ℕ)) (header : List ℕ) (len : ℕ) (fault : JournalFault) → later ≡ told → IfSome told (λ journal. length journal ≡ len)
+    → IfSome later (λ journal. header ≡ part journal 0 40) → ((journal : List ℕ) → length journal ≡ len → header ≡ part journal 0 40 → Decodes journal (Err fault))
+    → IfSome told (λ journal. Says journal (Err fault))
+refused_told None later header len fault same long read refused = tt
+refused_told (Some journal) later header len fault same long read refused =
+    let P : Option (List ℕ) → Type 0 = λ told. IfSome told (λ journal. header ≡ part journal 0 40) in
+    says journal (Err fault) (refused journal long (subst P same read))
+
+-- a read of the whole area gives all that it holds
+pub all_read : (told : Option (List ℕ)) (size : ℕ) (buf : List ℕ) → IfSome told (λ bytes. length bytes ≡ size) → length buf ≡ size → IfSome told (λ bytes. buf ≡ part bytes 0 (length buf))
+    → IfSome told (λ bytes. buf ≡ bytes)
+unfolding part
+all_read None size buf has long read = tt
+all_read (Some bytes) size buf has long read = read ∙ take_all (length buf) bytes (omega (arith, has, long))

@@ -7,7 +7,7 @@ ghost use Rattle.journal_defs.specs.Form.{group_count, IsOpen};
 ghost use Rattle.rx_ranges.specs.declared.plan.TheConstants.{MAX_LISTING_BYTES};
 ghost use Rattle.journal_defs.specs.Reading.{plan_in, groups_in, last_in};
 ghost use Rattle.journal_format.specs.Header.{header_in};
-ghost use Rattle.journal_format.specs.Says.{Says, IsState, FailsAs};
+ghost use Rattle.journal_format.specs.Says.{Decodes, IsState, FailsAs};
 
 use crate::fault::JournalFault;
 use crate::fields::{Header, first_failing, header_checks};
@@ -80,7 +80,7 @@ fn plan_of(alloc: Global, bytes: &[u8], header: &Header) -> Result<Plan, Journal
 
 /// What a journal with these bytes holds.
 pub(crate) fn decode(alloc: Global, bytes: &[u8]) -> Result<JournalState, JournalFault>
-    ensures says { Says bytes.now result }
+    ensures says { Decodes bytes.now result }
     ensures state { IfOk result (IsState (length bytes.now)) }
 {
     if bytes.len() < 41 || bytes[0] != OPEN_GATE {

@@ -15,9 +15,11 @@ mod fault;
 mod fields;
 mod listing;
 mod ranges;
+mod read;
 mod state;
 
 pub use fault::JournalFault;
+pub use read::read_journal;
 pub use state::{JournalState, Marks};
 
 /// Memory ran out.

@@ -1,6 +1,5 @@
-use Rattle.std.proofs.Common.{◌≡◌, ap, sym, ◌∙◌, arith, ◌≤◌}
+use Rattle.std.proofs.Common.{sym, arith, ◌≤◌}
 use Rattle.journal_defs.specs.Reading.{line_end}
-use Rattle.journal_defs.proofs.Passing.{pass_all}
 use Rattle.journal_format.proofs.Steps.{short_line, front_ends, front_refuses, answers_behind, on_ok}
 use Rattle.journal_format.proofs.listing.line_at.Goals as goal
 

@@ -1,7 +1,5 @@
-use Rattle.std.proofs.Common.{◌≡◌, ◌+◌, ◌-◌, ◌≤◌, ◌++◌, [], ◌∷◌, ap, sym, subst, ◌∙◌, arith, suc, ℕ, List}
+use Rattle.std.proofs.Common.{◌≡◌, ◌+◌, ◌-◌, arith, suc}
 use Rattle.std.proofs.lemmas.Result.{err_from_is_err_and}
-use Rattle.journal_defs.specs.Checks as table
-use Rattle.journal_defs.specs.Reading.{lines_in, line_end}
 use Rattle.journal_format.proofs.Steps.{fails_with, next_line, lines_left, read_left, bytes_left, no_bytes_left}
 use Rattle.journal_format.proofs.listing.read_lines.Goals as goal
 

@@ -1,9 +1,5 @@
-use Rattle.std.proofs.Common.{◌≡◌, ◌+◌, ◌-◌, ◌*◌, ◌++◌, [], ◌∷◌, ap, sym, subst, ◌∙◌, arith, suc, ℕ, List}
-use Rattle.std.proofs.lemmas.List.{append-nil}
+use Rattle.std.proofs.Common.{◌≡◌, ◌+◌, ◌-◌, ◌*◌, arith, suc}
 use Rattle.std.proofs.lemmas.Result.{err_from_is_err_and}
-use Rattle.journal_defs.specs.Checks.{ranges_checks}
-use Rattle.journal_defs.specs.Checks as table
-use Rattle.journal_defs.specs.Reading.{claims_in}
 use Rattle.journal_format.proofs.Steps.{ranges_left, claims_left, fails_with, next_range, no_ranges_left}
 use Rattle.journal_format.proofs.ranges.read_ranges.Goals as goal
 
