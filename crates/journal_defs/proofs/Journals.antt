@@ -148,14 +148,14 @@ pub in_parts : (gate last : ℕ) (plan : Plan) (marks : List ℕ)
 unfolding journal_bytes
 in_parts gate last plan marks = simp append_assoc
 
-length_ranges : (claims : List Claim) → length (flat_map range_bytes claims) ≡ 24 * length claims
+pub length_ranges : (claims : List Claim) → length (flat_map range_bytes claims) ≡ 24 * length claims
 unfolding range_bytes little
 length_ranges [] = refl
 length_ranges (claim ∷ claims) =
     let rest = length_ranges claims in
     omega (arith, rest)
 
-length_lines : (lines : List Listed) → length (flat_map line_bytes lines) ≡ sum_by listed_len lines
+pub length_lines : (lines : List Listed) → length (flat_map line_bytes lines) ≡ sum_by listed_len lines
 unfolding line_bytes little
 length_lines [] = refl
 length_lines (line ∷ lines) =
@@ -164,7 +164,7 @@ length_lines (line ∷ lines) =
     let both = length-append line.path (flat_map line_bytes lines) in
     omega (arith, rest, one, both)
 
-length_header_rest : (plan : Plan) → length (header_rest plan) ≡ 39
+pub length_header_rest : (plan : Plan) → length (header_rest plan) ≡ 39
 unfolding header_rest little
 length_header_rest plan = refl
 

@@ -130,8 +130,8 @@ front_ends bytes end at front made none =
 pub no_text_is_no_path : (path : List ℕ) → (IsUtf8 path → ⊥) → is_path path ≡ false
 no_text_is_no_path path other =
     false_from_ne_true (is_path path) (λ is.
-      let parts = and_parts (is_utf8 path && begins_with_slash path) (list_all is_printed path) is in
-      other (IsUtf8-from_is_utf8 path (and_parts (is_utf8 path) (begins_with_slash path) parts.0).0))
+    let parts = and_parts (is_utf8 path && begins_with_slash path) (list_all is_printed path) is in
+    other (IsUtf8-from_is_utf8 path (and_parts (is_utf8 path) (begins_with_slash path) parts.0).0))
 
 -- a text is a path where it begins with a slash and its bytes are printed
 pub path_of_text : (path : List ℕ) → IsUtf8 path → is_path path ≡ (begins_with_slash path && list_all is_printed path)

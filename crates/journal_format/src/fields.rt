@@ -66,7 +66,8 @@ impl Header {
             && (24 * self.now.ranges + self.now.listing_len + (group_count self.now.ranges + 1) == self.now.body_len)) }
     {
         self.listing_len <= MAX_LISTING_BYTES
-            && RANGE_LEN * u64::from(self.ranges) + self.listing_len + (self.groups() + 1) == self.body_len
+            && RANGE_LEN * u64::from(self.ranges) + self.listing_len + (self.groups() + 1)
+                == self.body_len
     }
 }
 

@@ -14,14 +14,18 @@ mod decode;
 mod fault;
 mod fields;
 mod listing;
+mod piece;
 mod ranges;
 mod read;
 mod state;
 
 pub use fault::JournalFault;
+pub use piece::{journal_len, journal_piece};
 pub use read::read_journal;
 pub use state::{JournalState, Marks};
 
 /// Memory ran out.
 pub type NoMemory = std::alloc::AllocError;
 
+#[cfg(test)]
+mod tests;

@@ -84,7 +84,10 @@ fn front_checks(bytes: &[u8], end: usize, at: usize) -> [(u64, bool); 3]
     let place = at as u64;
     [
         (place, kind == 1 || kind == 2),
-        (place + 1, is_listed_rule(kind, u32_at(Order::Little, bytes, at + 1))),
+        (
+            place + 1,
+            is_listed_rule(kind, u32_at(Order::Little, bytes, at + 1)),
+        ),
         (place + 5, end_of(bytes, at) <= end),
     ]
 }
@@ -134,7 +137,13 @@ fn line_at(alloc: Global, bytes: &[u8], end: usize, at: usize) -> Result<Listed,
 }
 
 /// The lines of a journal, where all pass their checks.
-pub(crate) fn read_lines(alloc: Global, bytes: &[u8], end: usize, begin: usize, count: usize) -> Result<Vec<Listed>, JournalFault>
+pub(crate) fn read_lines(
+    alloc: Global,
+    bytes: &[u8],
+    end: usize,
+    begin: usize,
+    count: usize,
+) -> Result<Vec<Listed>, JournalFault>
     requires begins { begin ≤ end }
     requires inside { end ≤ length bytes.now }
     ensures says { FailsAs (table.lines_checks bytes.now end begin count) result }

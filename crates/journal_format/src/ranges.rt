@@ -38,7 +38,8 @@ fn begins_behind(claim: &Claim, last_end: u64, image_len: u64) -> bool
 fn ends_inside(claim: &Claim, image_len: u64) -> bool
     ensures { result ≡ (nat_lt 0 claim.now.range.len && nat_le (claim.now.range.at + claim.now.range.len) image_len) }
 {
-    0 < claim.range.len && u128::from(claim.range.at) + u128::from(claim.range.len) <= u128::from(image_len)
+    0 < claim.range.len
+        && u128::from(claim.range.at) + u128::from(claim.range.len) <= u128::from(image_len)
 }
 
 /// Whether a range has a rule, and another than the last range where the two touch.
@@ -50,7 +51,13 @@ fn has_own_rule(claim: &Claim, last_end: u64, last_rule: u32) -> bool
 
 /// The checks of the range at a place, where the last one ended here and had this rule.
 #[tactic(auto, unfolding(journal_defs::specs::Checks::range_checks))]
-fn range_checks(bytes: &[u8], at: usize, image_len: u64, last_end: u64, last_rule: u32) -> [(u64, bool); 4]
+fn range_checks(
+    bytes: &[u8],
+    at: usize,
+    image_len: u64,
+    last_end: u64,
+    last_rule: u32,
+) -> [(u64, bool); 4]
     requires inside { at + 24 ≤ length bytes.now }
     requires image_len { image_len ≡ image_len_in bytes.now }
     ensures { result ≡ table.range_checks bytes.now at last_end last_rule }
@@ -66,7 +73,13 @@ fn range_checks(bytes: &[u8], at: usize, image_len: u64, last_end: u64, last_rul
 }
 
 /// The range at a place, where it passes its checks.
-fn range_at(bytes: &[u8], at: usize, image_len: u64, last_end: u64, last_rule: u32) -> Result<Claim, JournalFault>
+fn range_at(
+    bytes: &[u8],
+    at: usize,
+    image_len: u64,
+    last_end: u64,
+    last_rule: u32,
+) -> Result<Claim, JournalFault>
     requires inside { at + 24 ≤ length bytes.now }
     requires image_len { image_len ≡ image_len_in bytes.now }
     ensures says { FailsAs (table.range_checks bytes.now at last_end last_rule) result }
@@ -81,7 +94,12 @@ fn range_at(bytes: &[u8], at: usize, image_len: u64, last_end: u64, last_rule: u
 }
 
 /// The ranges of a journal, where all pass their checks.
-pub(crate) fn read_ranges(alloc: Global, bytes: &[u8], count: usize, image_len: u64) -> Result<Vec<Claim>, JournalFault>
+pub(crate) fn read_ranges(
+    alloc: Global,
+    bytes: &[u8],
+    count: usize,
+    image_len: u64,
+) -> Result<Vec<Claim>, JournalFault>
     requires inside { 40 + 24 * count ≤ length bytes.now }
     requires image_len { image_len ≡ image_len_in bytes.now }
     ensures says { FailsAs (table.ranges_checks bytes.now 40 0 0 count) result }

@@ -1,3 +1,4 @@
+use Rattle.journal_defs.specs.Checks.{ranges_checks}
 use Rattle.std.proofs.Common.{◌≡◌, ◌+◌, ◌-◌, ◌*◌, arith, suc}
 use Rattle.std.proofs.lemmas.Result.{err_from_is_err_and}
 use Rattle.journal_format.proofs.Steps.{ranges_left, claims_left, fails_with, next_range, no_ranges_left}
@@ -8,7 +9,7 @@ returns-in_err-claim-clause-says c =
     let fault = err_from_is_err_and c.from_residual-in_err-claim.result c.from_residual-in_err-claim.ensures.1 in
     let more : c.args.count - c.loop-i.i ≡ suc (c.args.count - (c.loop-i.i + 1)) = omega arith in
     let next = next_range c.args.bytes.now _ _ _ _ _ _ more c.loop-i.invariant.left in
-    rw (fault.1, fault.2) (fails_with _ _ _ _ next.1 c.in_err-claim.ensures.says)
+    rw (fault.1, fault.2) (fails_with _ _ (ranges_checks c.args.bytes.now 40 0 0 c.args.count) _ next.1 c.in_err-claim.ensures.says)
 
 pub loop-i-preserved : goal.loop-i-preserved
 loop-i-preserved c =

@@ -1,0 +1,8 @@
+use Rattle.std.proofs.Common.{arith, ◌+◌, ◌≡◌, length}
+use Rattle.journal_defs.specs.Form.{little, range_bytes}
+use Rattle.journal_format.specs.Filled.{FillsNext}
+use Rattle.journal_format.proofs.Fills.{range_fills}
+use Rattle.journal_format.proofs.piece.put_range.Goals as goal
+
+pub returns : goal.returns
+returns c = range_fills c.args.claim.now _ _ _ _ _ c.args.at c.args.place c.put_u64.ensures c.put_u64-2.ensures c.put_u32.ensures c.put.ensures
