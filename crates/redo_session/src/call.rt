@@ -1,16 +1,14 @@
 //! The call of a step.
 ghost use Rattle.std.specs.Prelude.{◌≡◌, ◌≢◌, ◌≤◌, ◌<◌, ◌+◌, Some, length, min, replicate};
-ghost use Rattle.disk_defs.specs.Disk.{State};
-ghost use Rattle.disk_defs.specs.declared.Area.TheVariants.{Journal};
-ghost use Rattle.journal_defs.specs.Form.{first_journal, groups_of, journal_len};
+ghost use Rattle.journal_defs.specs.Form.{groups_of, journal_len};
 ghost use Rattle.rx_ranges.specs.PlanChecks.{IsPlan};
 ghost use Rattle.session_defs.specs.Session.{IsChangeCounted, IsMade};
 ghost use Rattle.session_defs.specs.declared.TheConstants.{PIECE};
-ghost use Rattle.bytes_defs.specs.Bytes.{part};
 ghost use Rattle.redo_session.specs.Steps.{HasJournal, IsStep, call_of};
 
 use crate::step::Step;
 use journal_defs::{OPEN_GATE, SET_MARK};
+use journal_format::journal_piece;
 use rx_ranges::Plan;
 use rx_store::{Area, Fault, Store};
 use session_defs::PIECE;
@@ -23,7 +21,13 @@ fn piece_len(left: u64) -> usize
 }
 
 /// Writes the piece of the first journal from a byte on.
-fn write_body<S: Store>(plan: &Plan, len: u64, at: u64, buffer: &mut [u8], store: &mut S) -> Result<(), Fault>
+fn write_body<S: Store>(
+    plan: &Plan,
+    len: u64,
+    at: u64,
+    buffer: &mut [u8],
+    store: &mut S,
+) -> Result<(), Fault>
     requires plan { IsPlan plan.now }
     requires len { len ≡ journal_len plan.now }
     requires step { IsStep plan.now (Step.Body at) }
@@ -39,7 +43,14 @@ fn write_body<S: Store>(plan: &Plan, len: u64, at: u64, buffer: &mut [u8], store
 }
 
 /// Fills the piece of a range from its byte `done` on.
-fn write_fill<S: Store>(plan: &Plan, group: usize, range: usize, done: u64, buffer: &mut [u8], store: &mut S) -> Result<(), Fault>
+fn write_fill<S: Store>(
+    plan: &Plan,
+    group: usize,
+    range: usize,
+    done: u64,
+    buffer: &mut [u8],
+    store: &mut S,
+) -> Result<(), Fault>
     requires plan { IsPlan plan.now }
     requires step { IsStep plan.now (Step.Fill group range done) }
     requires buffer { length buffer.old ≡ PIECE }
@@ -55,7 +66,14 @@ fn write_fill<S: Store>(plan: &Plan, group: usize, range: usize, done: u64, buff
 }
 
 /// Makes the call of a step.
-pub(crate) fn make_call<S: Store>(plan: &Plan, groups: usize, len: u64, step: Step, buffer: &mut [u8], store: &mut S) -> Result<(), Fault>
+pub(crate) fn make_call<S: Store>(
+    plan: &Plan,
+    groups: usize,
+    len: u64,
+    step: Step,
+    buffer: &mut [u8],
+    store: &mut S,
+) -> Result<(), Fault>
     requires plan { IsPlan plan.now }
     requires groups { groups ≡ groups_of plan.now }
     requires len { len ≡ journal_len plan.now }
@@ -75,24 +93,13 @@ pub(crate) fn make_call<S: Store>(plan: &Plan, groups: usize, len: u64, step: St
         Step::Open => store.write_at(Area::Journal, 0, &[OPEN_GATE]),
         Step::Fill { group, range, done } => write_fill(plan, group, range, done, buffer, store),
         Step::Mark { group } => {
-            store.write_at(Area::Journal, len - 1 - (groups - group) as u64, &[SET_MARK])
+            store.write_at(
+                Area::Journal,
+                len - 1 - (groups - group) as u64,
+                &[SET_MARK],
+            )
         }
         Step::Close => store.write_at(Area::Journal, len - 1, &[SET_MARK]),
         _ => store.sync(),
     }
-}
-
-/// TEMPORARY
-fn journal_piece(plan: &Plan, at: u64, buf: &mut [u8])
-    requires plan { IsPlan plan.now }
-    requires within { at + length buf.old ≤ journal_len plan.now }
-    ensures { buf.new ≡ part (first_journal plan.now) at (length buf.old) }
-{
-}
-
-pub(crate) fn journal_len(plan: &Plan) -> u64
-    requires { IsPlan plan.now }
-    ensures { result ≡ journal_len plan.now }
-{
-    0
 }

@@ -10,8 +10,9 @@ ghost use Rattle.redo_session.specs.Steps.{IsStep, journal_at, left};
 ghost use Rattle.redo_session.specs.Sessions.{stage_of};
 
 use crate::NoMemory;
-use crate::call::{journal_len, make_call};
+use crate::call::make_call;
 use crate::step::{Step, next, next_group, turn_of};
+use journal_format::{JournalState, journal_len};
 use rx_ranges::Plan;
 use rx_store::Store;
 use session_defs::{PIECE, Turn, TurnFault};
@@ -111,19 +112,19 @@ impl<'p> Session<'p> {
         })
     }
 
-    /// A session that goes on with the plan of an open journal, which has these marks.
-    pub fn resume(alloc: Global, plan: &'p Plan, groups: &[bool], last: bool) -> Result<Session<'p>, NoMemory>
-        requires plan { IsPlan plan.now }
-        requires groups { length groups.now ≡ groups_of plan.now }
-        ensures { IfOk result (λ session. session ≡ new_session plan.now (Resumed groups.now last) (Some (journal_len plan.now))) }
+    /// A session that goes on with the plan of an open journal.
+    pub fn resume(alloc: Global, state: &'p JournalState) -> Result<Session<'p>, NoMemory>
+        requires plan { IsPlan state.now.plan }
+        requires groups { length state.now.groups ≡ groups_of state.now.plan }
+        ensures { IfOk result (λ session. session ≡ new_session state.now.plan (Resumed state.now.groups state.now.last) (Some (journal_len state.now.plan))) }
     {
-        let marks = Vec::from_slice(alloc, groups)?;
-        let step = first_step(plan, &marks, last);
+        let marks = Vec::from_slice(alloc, state.groups.items())?;
+        let step = first_step(&state.plan, &marks, state.last);
         Ok(Session {
-            plan,
+            plan: &state.plan,
             marks,
-            resumed: Some(last),
-            len: journal_len(plan),
+            resumed: Some(state.last),
+            len: journal_len(&state.plan),
             step,
             has_ended: false,
             buffer: room_for_piece(alloc)?,
@@ -157,7 +158,14 @@ impl<'p> Session<'p> {
         let groups = self.marks.len();
         let turn = turn_of(self.plan, self.step);
         let after = next(self.plan, &self.marks, self.len, self.step);
-        match make_call(self.plan, groups, self.len, self.step, &mut self.buffer, store) {
+        match make_call(
+            self.plan,
+            groups,
+            self.len,
+            self.step,
+            &mut self.buffer,
+            store,
+        ) {
             Ok(()) => {
                 self.step = after;
                 Ok(turn)

@@ -20,7 +20,9 @@ pub(crate) enum Step {
     Arm,
     ArmSync,
     /// The piece of the journal from this byte on is written.
-    Body { at: u64 },
+    Body {
+        at: u64,
+    },
     BodySync,
     /// Its gate is opened, and synced.
     Open,
@@ -32,8 +34,12 @@ pub(crate) enum Step {
         done: u64,
     },
     /// The group is synced, and marked.
-    GroupSync { group: usize },
-    Mark { group: usize },
+    GroupSync {
+        group: usize,
+    },
+    Mark {
+        group: usize,
+    },
     /// The last mark is set, with a sync in front of it and behind it.
     CloseSync,
     Close,

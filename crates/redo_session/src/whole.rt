@@ -17,8 +17,9 @@ pub fn finish<S: Store>(session: &mut Session<'_>, store: &mut S) -> Result<(), 
     ensures counted { IsSessionCounted result (S.faults store.old) (S.faults store.new) }
 {
     while !session.is_over() {
-        if session.turn(store).is_err() {
-            return Err(Fault);
+        match session.turn(store) {
+            Ok(_) => {}
+            Err(_) => return Err(Fault),
         }
     }
     Ok(())
