@@ -38,6 +38,7 @@ use ufs_defs::superblock::Superblock;
 /// The tree of the image, where that has the first form.
 pub fn read_tree<S: Store>(alloc: Global, store: &mut S) -> Result<Tree, FirstReadFault>
     ensures told { IfSome (told_image (S.state store.old)) (λ image. GivesTree result (first_tree image)) }
+    ensures sized { IfOk result (λ tree. tree.image_len ≡ size_of Image (S.state store.old)) }
     ensures same { S.state store.new ≡ S.state store.old }
     ensures counted { IsFirstCounted result (S.faults store.old) (S.faults store.new) }
 {
@@ -52,6 +53,7 @@ fn read_image<S: Store>(alloc: Global, store: &mut S, size: u64) -> Result<Tree,
     requires { size ≡ size_of Image (S.state store.old) }
     ensures told { IfSome (told_image (S.state store.old))
         (λ image. length image ≡ size → Gives result (first_tree image)) }
+    ensures sized { IfOk result (λ tree. tree.image_len ≡ size) }
     ensures same { S.state store.new ≡ S.state store.old }
     ensures counted { IsFirstCounted result (S.faults store.old) (S.faults store.new) }
 {
@@ -82,6 +84,7 @@ fn read_volume<S: Store>(
     requires first { is_first_superblock superblock.now ≡ true }
     ensures told { IfSome (told_image (S.state store.old)) (λ image. length image ≡ size
         → IsVolume image size superblock.now → Gives result (first_tree image)) }
+    ensures sized { IfOk result (λ tree. tree.image_len ≡ size) }
     ensures same { S.state store.new ≡ S.state store.old }
     ensures counted { IsFirstCounted result (S.faults store.old) (S.faults store.new) }
 {

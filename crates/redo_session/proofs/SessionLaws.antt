@@ -1,8 +1,8 @@
 -- Laws of sessions: which call comes next, and what a session is behind it.
-use Rattle.std.proofs.Common.{◌≡◌, ℕ, suc, ◌+◌, ◌-◌, ◌≤◌, Bool, true, false, if◌then◌else◌, Option, Some, Result, Ok, Err, List, [], ◌∷◌, ◌++◌, length, drop, take, slice_get, refl, sym, ◌∙◌, ap, subst, arith, length-drop, append_assoc}
-use Rattle.std.proofs.lemmas.List.{drop-drop, take_all, length-map}
+use Rattle.std.proofs.Common.{◌≡◌, ℕ, suc, ◌+◌, Bool, true, false, if◌then◌else◌, Option, Some, Ok, Err, List, [], ◌∷◌, ◌++◌, length, drop, slice_get, refl, sym, ◌∙◌, ap, subst, arith, length-drop, append_assoc}
+use Rattle.std.proofs.lemmas.List.{drop-drop}
 use Rattle.disk_defs.specs.Story.{Change, Write, Cut, Sync}
-use Rattle.disk_defs.specs.Disk.{Sizes, State, sizes_after, state_after, state_after_all}
+use Rattle.disk_defs.specs.Disk.{Sizes, State, sizes_after, state_after}
 use Rattle.disk_defs.specs.Count.{Faults}
 use Rattle.disk_defs.specs.declared.Area.TheVariants.{Image, Journal}
 use Rattle.rx_ranges.specs.declared.plan.Plan.{Plan}
@@ -11,8 +11,8 @@ use Rattle.journal_defs.specs.declared.TheConstants.{OPEN_GATE}
 use Rattle.rx_ranges.specs.PlanChecks.{IsPlan}
 use Rattle.session_defs.specs.declared.TheConstants.{PIECE}
 use Rattle.session_defs.specs.declared.Turn.TheVariants.{Cleared, Armed, Wrote, Opened}
-use Rattle.session_defs.specs.Script.{Call, sync, byte_call, writes, journal_calls, unmarked_calls, closing_calls, unmarked, is_complete, script, rest_of, changes_of}
-use Rattle.session_defs.specs.Session.{SessionValue, Start, HasSizes, new_session, calls_of, next_call, IsChangeCounted}
+use Rattle.session_defs.specs.Script.{Call, sync, byte_call, writes, journal_calls, unmarked_calls, closing_calls, unmarked, is_complete, script, rest_of}
+use Rattle.session_defs.specs.Session.{SessionValue, HasSizes, new_session, calls_of, next_call, IsChangeCounted}
 use Rattle.redo_session.specs.Steps.{left, left_from_group, HasJournal, IsStep, journal_at}
 use Rattle.redo_session.specs.Sessions.{IsSession, start_of, made_at, session_of}
 use Rattle.redo_session.specs.declared.step.Step.{Step}

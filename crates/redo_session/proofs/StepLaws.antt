@@ -1,9 +1,8 @@
 -- Laws of the calls that are left: which comes first, and which are left behind it.
-use Rattle.std.proofs.Common.{◌≡◌, ℕ, suc, ◌+◌, ◌-◌, ◌*◌, ◌<◌, ◌≤◌, min, Bool, true, false, List, [], ◌∷◌, ◌++◌, length, take, drop, replicate, slice_index_or, refl, sym, ◌∙◌, ap, arith, length-drop, length-take, append_assoc, subst, Option, Some, IfSome, Result, Ok, Err, OnOk, OnErr}
+use Rattle.std.proofs.Common.{◌≡◌, ℕ, suc, ◌+◌, ◌-◌, ◌*◌, ◌<◌, ◌≤◌, min, Bool, true, false, List, [], ◌∷◌, ◌++◌, length, take, drop, replicate, slice_index_or, sym, ◌∙◌, ap, arith, length-drop, length-take, append_assoc, subst, Option, Some, IfSome, Result, Ok, Err, OnOk, OnErr}
 use Rattle.std.specs.List.{flat_map}
 use Rattle.std.proofs.Math.Seq.{drop-cons}
-use Rattle.std.proofs.lemmas.List.{drop-drop, drop_all, drop-replicate, length-replicate, take_min, take_all}
-use Rattle.std.proofs.lemmas.List.Elements.{All-head, All-tail}
+use Rattle.std.proofs.lemmas.List.{drop-drop, drop_all, drop-replicate, length-replicate, take_min}
 use Rattle.disk_defs.specs.Story.{Write}
 use Rattle.disk_defs.specs.Disk.{Sizes, State, sizes_after, state_after, IsAfterFailed}
 use Rattle.disk_defs.specs.declared.Fault.{Fault}
@@ -17,7 +16,7 @@ use Rattle.journal_defs.proofs.JournalLaws.{length_law}
 use Rattle.range_defs.specs.declared.Claim.{Claim}
 use Rattle.range_defs.specs.Claims.{IsFillMap}
 use Rattle.rx_ranges.specs.declared.plan.Plan.{Plan}
-use Rattle.session_defs.specs.Script.{Call, sync, byte_call, writes, fill_calls, ranges_of_group, group_calls, mark_place, unmarked_calls, closing_calls}
+use Rattle.session_defs.specs.Script.{Call, sync, byte_call, writes, fill_calls, ranges_of_group, mark_place, unmarked_calls, closing_calls}
 use Rattle.session_defs.specs.declared.TheConstants.{PIECE}
 use Rattle.session_defs.specs.declared.Turn.{Turn}
 use Rattle.session_defs.specs.declared.Turn.TheVariants.{Wrote, Filled, Marked}

@@ -1,12 +1,12 @@
 -- Laws of sessions, turn after turn.
-use Rattle.std.proofs.Common.{◌≡◌, ℕ, suc, ◌+◌, ◌≤◌, Option, None, Some, IfSome, Result, Ok, Err, IsOk, OnOk, List, [], ◌∷◌, length, map, take, slice_get, refl, sym, ◌∙◌, ap, subst, arith}
+use Rattle.std.proofs.Common.{◌≡◌, ℕ, suc, ◌+◌, ◌≤◌, Option, None, Some, IfSome, Ok, Err, List, [], ◌∷◌, length, take, slice_get, sym, ◌∙◌, ap, subst, arith}
 use Rattle.std.proofs.lemmas.List.{take_all, length-map}
 use Rattle.disk_defs.specs.Story.{Change, Write, Cut, Sync}
 use Rattle.disk_defs.specs.Count.{Faults}
 use Rattle.disk_defs.specs.declared.Area.TheVariants.{Image, Journal}
 use Rattle.disk_defs.specs.Disk.{State, state_after, state_after_all}
 use Rattle.session_defs.specs.Script.{Call, changes_of}
-use Rattle.session_defs.specs.Session.{SessionValue, Stage, Running, Ended, HasSizes, IsMade, IsTurned, IsStopped, IsLeft, IsAnswer, IsTurnCounted, IsChangeCounted, IsSessionCounted, idle_answer, calls_of, next_call, call_at_stage}
+use Rattle.session_defs.specs.Session.{SessionValue, Stage, Running, Ended, HasSizes, IsMade, IsTurned, IsStopped, IsLeft, IsAnswer, IsTurnCounted, IsChangeCounted, idle_answer, calls_of, next_call, call_at_stage}
 use Rattle.session_defs.specs.declared.Turn.{Turn}
 use Rattle.session_defs.specs.declared.TurnFault.{TurnFault}
 use Rattle.redo_session.specs.Sessions.{IsUnderWay}

@@ -6,7 +6,6 @@ use Rattle.disk_defs.specs.Disk.{Sizes}
 use Rattle.disk_defs.specs.declared.Area.TheVariants.{Image, Journal}
 use Rattle.journal_defs.specs.Form.{first_journal, groups_of, journal_len}
 use Rattle.journal_defs.specs.declared.TheConstants.{OPEN_GATE, SET_MARK, GROUP_RANGES}
-use Rattle.range_defs.specs.declared.Range.{Range}
 use Rattle.range_defs.specs.declared.Claim.{Claim}
 use Rattle.rx_ranges.specs.declared.plan.Plan.{Plan}
 use Rattle.session_defs.specs.Script.{Call, sync, byte_call, writes, fill_calls, mark_place, unmarked_calls, closing_calls}

@@ -19,3 +19,6 @@ pub use whole::finish;
 
 /// Memory ran out.
 pub type NoMemory = std::alloc::AllocError;
+
+#[cfg(test)]
+mod tests;

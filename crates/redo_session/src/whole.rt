@@ -2,7 +2,7 @@
 ghost use Rattle.std.specs.Prelude.{◌≡◌, ◌≢◌, OnErr, OnOk};
 ghost use Rattle.disk_defs.specs.Disk.{state_after_all};
 ghost use Rattle.session_defs.specs.Script.{changes_of};
-ghost use Rattle.session_defs.specs.Session.{Running, HasSizes, IsSessionCounted, IsStopped, calls_of};
+ghost use Rattle.session_defs.specs.Session.{Running, Ended, HasSizes, IsSessionCounted, IsStopped, calls_of};
 
 use crate::session::Session;
 use rx_store::{Fault, Store};
@@ -14,6 +14,7 @@ pub fn finish<S: Store>(session: &mut Session<'_>, store: &mut S) -> Result<(), 
     requires sizes { HasSizes session.old (S.state store.old) }
     ensures done { OnOk result (S.state store.new ≡ state_after_all (changes_of (calls_of session.old.plan session.old.start)) (S.state store.old)) }
     ensures stopped { OnErr result (IsStopped (changes_of (calls_of session.old.plan session.old.start)) (S.state store.old) (S.state store.new)) }
+    ensures over { session.new.stage ≡ Ended }
     ensures counted { IsSessionCounted result (S.faults store.old) (S.faults store.new) }
 {
     while !session.is_over() {

@@ -1,4 +1,4 @@
-use Rattle.std.proofs.Common.{arith, ap, ◌∙◌, None, false, replicate, length, refl}
+use Rattle.std.proofs.Common.{ap, ◌∙◌, None, false, replicate, length, refl}
 use Rattle.std.proofs.lemmas.List.{length-replicate}
 use Rattle.journal_defs.specs.Form.{groups_of}
 use Rattle.redo_session.specs.declared.step.Step.TheVariants.{Clear}

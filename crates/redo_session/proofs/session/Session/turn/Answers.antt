@@ -1,7 +1,7 @@
 use Rattle.std.proofs.Common.{◌≡◌, Bool, true, List, Option, Ok, Err, IfSome, ◌∷◌, refl, sym, subst, ap, ◌∙◌}
 use Rattle.disk_defs.specs.declared.Fault.{Fault}
 use Rattle.session_defs.specs.Script.{Call}
-use Rattle.session_defs.specs.Session.{SessionValue, Ended, HasSizes, IsAnswer, IsMade, IsTurned, IsTurnCounted, next_call}
+use Rattle.session_defs.specs.Session.{SessionValue, Ended, HasSizes, IsAnswer, IsMade, IsTurned, IsTurnCounted}
 use Rattle.session_defs.specs.declared.Turn.{Turn}
 use Rattle.session_defs.specs.declared.TurnFault.{TurnFault}
 use Rattle.session_defs.specs.declared.TurnFault.TheVariants.{Device}
