@@ -1,5 +1,7 @@
 -- What the calls of a session leave: the image with its ranges filled, and the journal with all marks.
 use Rattle.std.specs.Prelude.{◌≡◌, ℕ, ◌+◌, Bool, true, false, Option, None, Some, replicate, List, [], ◌∷◌, ◌++◌, length}
+use Rattle.std.specs.Option.{option_map}
+use Rattle.disk_defs.specs.Disk.{State, held, state_after, state_after_all}
 use Rattle.disk_defs.specs.Story.{Held, Change, changed}
 use Rattle.journal_defs.specs.Form.{IsJournal, groups_of, journal_bytes}
 use Rattle.journal_defs.specs.declared.TheConstants.{OPEN_GATE, SET_MARK}
@@ -49,3 +51,11 @@ abbrev pub RestLaw : Type 0
 RestLaw = (plan : Plan) (groups : List Bool) (last : Bool) (first : Held) → IsPlan plan → length first.image ≡ plan.image_len
     → IsJournal first.journal plan groups last
     → changed_all (changes_of (rest_of plan groups last)) first ≡ record { image = filled (unmarked_ranges plan 0 groups) first.image; journal = done_journal plan }
+
+-- What a store holds after changes, where it tells that, is what it held with these changes made.
+abbrev pub HeldLaw : Type 0
+HeldLaw = (changes : List Change) (state : State) → held (state_after_all changes state) ≡ option_map (changed_all changes) (held state)
+
+-- After one change more a store is what that change makes of it.
+abbrev pub OneMoreLaw : Type 0
+OneMoreLaw = (changes : List Change) (change : Change) (state : State) → state_after_all (changes ++ change ∷ []) state ≡ state_after change (state_after_all changes state)

@@ -11,6 +11,8 @@
 //!     sync · write the last mark · sync
 #![tactic(auto)]
 
+pub mod laws;
+
 /// The most bytes that one call writes.
 pub const PIECE: usize = 65_536;
 
