@@ -1,2 +1,5 @@
 pub mod Writes
 pub mod Made
+pub mod Filled
+pub mod Marks
+pub mod OutcomeLaws

@@ -1,11 +1,14 @@
 -- What the calls of a session leave: the image with its ranges filled, and the journal with all marks.
-use Rattle.std.specs.Prelude.{◌≡◌, ℕ, ◌+◌, Bool, true, false, Option, None, Some, replicate, List, [], ◌∷◌, ◌++◌, length}
+use Rattle.std.specs.Prelude.{◌≡◌, ℕ, ◌+◌, Bool, true, false, IsTrue, Option, None, Some, replicate, List, [], ◌∷◌, ◌++◌, length, slice_get}
 use Rattle.std.specs.Option.{option_map}
 use Rattle.disk_defs.specs.Disk.{State, held, state_after, state_after_all}
 use Rattle.disk_defs.specs.Story.{Held, Change, changed}
 use Rattle.journal_defs.specs.Form.{IsJournal, groups_of, journal_bytes}
 use Rattle.journal_defs.specs.declared.TheConstants.{OPEN_GATE, SET_MARK}
+use Rattle.image_defs.specs.Agreement.{AgreeOn}
 use Rattle.range_defs.specs.declared.Claim.{Claim}
+use Rattle.range_defs.specs.declared.Range.{Range}
+use Rattle.range_defs.specs.Places.{covers}
 use Rattle.range_defs.specs.Claims.{painted}
 use Rattle.rx_ranges.specs.PlanChecks.{IsPlan}
 use Rattle.rx_ranges.specs.declared.plan.Plan.{Plan}
@@ -59,3 +62,19 @@ HeldLaw = (changes : List Change) (state : State) → held (state_after_all chan
 -- After one change more a store is what that change makes of it.
 abbrev pub OneMoreLaw : Type 0
 OneMoreLaw = (changes : List Change) (change : Change) (state : State) → state_after_all (changes ++ change ∷ []) state ≡ state_after change (state_after_all changes state)
+
+-- ---- filling changes only what is planned
+
+-- A filled image is as long as the image.
+abbrev pub FilledLengthLaw : Type 0
+FilledLengthLaw = (claims : List Claim) (image : List ℕ) → length (filled claims image) ≡ length image
+
+-- Each byte of it is the fill of its paint, or else the image's own byte.
+abbrev pub FilledBytesLaw : Type 0
+FilledBytesLaw = (claims : List Claim) (image : List ℕ) (byte : ℕ) → slice_get (filled claims image) byte ≡ option_map (filled_byte (painted claims byte)) (slice_get image byte)
+
+-- It agrees with the image on ranges of which no byte is claimed.
+abbrev pub UntouchedLaw : Type 0
+UntouchedLaw =
+    (claims : List Claim) (image : List ℕ) (ranges : List Range) → ((byte : ℕ) → IsTrue (covers ranges byte) → painted claims byte ≡ None)
+    → AgreeOn ranges (filled claims image) image

@@ -1,5 +1,15 @@
 //! Laws of what the calls of a session leave.
-ghost use Rattle.session_defs.specs.Outcome.{HeldLaw, OneMoreLaw};
+ghost use Rattle.session_defs.specs.Outcome.{ScriptLaw, RestLaw, HeldLaw, OneMoreLaw, FilledLengthLaw, FilledBytesLaw, UntouchedLaw};
+
+/// All calls of a plan leave the image with its ranges filled, and its journal with all marks, whatever the journal was.
+pub fn all_calls_fill_the_plan()
+    ensures { ScriptLaw }
+{}
+
+/// The calls that are left of an open journal leave the image with the ranges of the unmarked groups filled, and all marks.
+pub fn the_rest_fills_what_is_unmarked()
+    ensures { RestLaw }
+{}
 
 /// What a store holds after changes is what it held with these changes made.
 #[tactic(auto, using(crate::proofs::Made::held_law))]
@@ -11,4 +21,21 @@ pub fn stores_hold_what_changes_left()
 #[tactic(auto, using(crate::proofs::Made::one_more_law))]
 pub fn one_more_change_is_the_last()
     ensures { OneMoreLaw }
+{}
+
+/// A filled image is as long as the image.
+#[tactic(auto, using(crate::proofs::Filled::filled_length_law))]
+pub fn filled_images_keep_their_length()
+    ensures { FilledLengthLaw }
+{}
+
+/// Each byte of a filled image is the fill that it was given, or the image's own byte.
+#[tactic(auto, using(crate::proofs::Filled::filled_bytes_law))]
+pub fn filled_bytes_are_planned_or_kept()
+    ensures { FilledBytesLaw }
+{}
+
+/// A filled image agrees with the image wherever nothing is claimed.
+pub fn what_is_not_claimed_stays()
+    ensures { UntouchedLaw }
 {}
