@@ -3,3 +3,4 @@ pub mod Made
 pub mod Filled
 pub mod Marks
 pub mod OutcomeLaws
+pub mod Acknowledged

@@ -100,7 +100,7 @@ unmarked_in_order plan from end group (false ∷ marks) ordered =
     (λ to rest. unmarked_in_order plan to end (group + 1) marks (subst (AreInOrder to end) (next_group plan group) rest))
 
 -- where no group is marked, they are all ranges
-all_unmarked : (plan : Plan) (group count : ℕ) → length plan.ranges ≤ GROUP_RANGES * (group + count)
+pub all_unmarked : (plan : Plan) (group count : ℕ) → length plan.ranges ≤ GROUP_RANGES * (group + count)
     → unmarked_ranges plan group (replicate count false) ≡ drop (GROUP_RANGES * group) plan.ranges
 all_unmarked plan group zero enough = sym (nil_from_length (drop (GROUP_RANGES * group) plan.ranges) (omega (arith, enough, length-drop (GROUP_RANGES * group) plan.ranges)))
 all_unmarked plan group (suc count) enough =

@@ -1,8 +1,9 @@
 -- What the calls of a session leave: the image with its ranges filled, and the journal with all marks.
-use Rattle.std.specs.Prelude.{◌≡◌, ℕ, ◌+◌, Bool, true, false, IsTrue, Option, None, Some, replicate, List, [], ◌∷◌, ◌++◌, length, slice_get}
+use Rattle.std.specs.Prelude.{◌≡◌, ℕ, ◌+◌, ◌≤◌, All, Bool, true, false, Contains, IsTrue, Option, None, Some, replicate, List, [], ◌∷◌, ◌++◌, length, slice_get}
 use Rattle.std.specs.Option.{option_map}
 use Rattle.disk_defs.specs.Disk.{State, held, state_after, state_after_all}
-use Rattle.disk_defs.specs.Story.{Held, Change, changed}
+use Rattle.disk_defs.specs.Story.{Held, Change, Write, Cut, Sync, changed}
+use Rattle.disk_defs.specs.declared.Area.TheVariants.{Image, Journal}
 use Rattle.journal_defs.specs.Form.{IsJournal, groups_of, journal_bytes}
 use Rattle.journal_defs.specs.declared.TheConstants.{OPEN_GATE, SET_MARK}
 use Rattle.image_defs.specs.Agreement.{AgreeOn}
@@ -12,7 +13,7 @@ use Rattle.range_defs.specs.Places.{covers}
 use Rattle.range_defs.specs.Claims.{painted}
 use Rattle.rx_ranges.specs.PlanChecks.{IsPlan}
 use Rattle.rx_ranges.specs.declared.plan.Plan.{Plan}
-use Rattle.session_defs.specs.Script.{ranges_of_group, script, rest_of, changes_of}
+use Rattle.session_defs.specs.Script.{journal_calls, ranges_of_group, script, rest_of, changes_of}
 
 -- the fill that a byte has by its paint, or else the byte itself
 abbrev pub filled_byte : Option (ℕ × ℕ) → ℕ → ℕ
@@ -78,3 +79,38 @@ abbrev pub UntouchedLaw : Type 0
 UntouchedLaw =
     (claims : List Claim) (image : List ℕ) (ranges : List Range) → ((byte : ℕ) → IsTrue (covers ranges byte) → painted claims byte ≡ None)
     → AgreeOn ranges (filled claims image) image
+
+-- ---- when the image is written, and where
+
+-- a change that doesn't write to the image
+abbrev pub LeavesImage : Change → Type 0
+LeavesImage (Write Image at bytes) = ⊥
+LeavesImage (Write Journal at bytes) = Unit {0}
+LeavesImage (Cut len) = Unit {0}
+LeavesImage Sync = Unit {0}
+
+-- bytes from a place on lie inside one of these claims, and each is its fill
+pub record AreFillOf (claims : List Claim) (at : ℕ) (bytes : List ℕ) : Type 0 where
+  pub claim : Claim
+  pub is_one : Contains claims claim
+  pub begins : claim.range.at ≤ at
+  pub ends : at + length bytes ≤ claim.range.at + claim.range.len
+  pub fill : bytes ≡ replicate (length bytes) claim.fill
+
+-- a change that writes to the image, if it does, only inside one of these claims and only its fill
+abbrev pub IsFillIn : List Claim → Change → Type 0
+IsFillIn claims (Write Image at bytes) = AreFillOf claims at bytes
+IsFillIn claims (Write Journal at bytes) = Unit {0}
+IsFillIn claims (Cut len) = Unit {0}
+IsFillIn claims Sync = Unit {0}
+
+-- No call writes to the image before the journal of the plan is open and synced. The calls behind that write to it only inside the
+-- ranges of the plan, and those that are left of an open journal only inside the ranges of the groups that aren't marked, each
+-- range's fill alone.
+pub record IsAcknowledged (plan : Plan) : Type 0 where
+  pub journal_first : All (λ call. LeavesImage call.change) (journal_calls plan)
+  pub planned_alone : All (λ call. IsFillIn plan.ranges call.change) (script plan)
+  pub unmarked_alone : (groups : List Bool) (last : Bool) → All (λ call. IsFillIn (unmarked_ranges plan 0 groups) call.change) (rest_of plan groups last)
+
+abbrev pub AcknowledgedLaw : Type 0
+AcknowledgedLaw = (plan : Plan) → IsAcknowledged plan

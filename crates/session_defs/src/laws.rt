@@ -1,5 +1,5 @@
 //! Laws of what the calls of a session leave.
-ghost use Rattle.session_defs.specs.Outcome.{ScriptLaw, RestLaw, HeldLaw, OneMoreLaw, FilledLengthLaw, FilledBytesLaw, UntouchedLaw};
+ghost use Rattle.session_defs.specs.Outcome.{ScriptLaw, RestLaw, HeldLaw, OneMoreLaw, FilledLengthLaw, FilledBytesLaw, UntouchedLaw, AcknowledgedLaw};
 
 /// All calls of a plan leave the image with its ranges filled, and its journal with all marks, whatever the journal was.
 pub fn all_calls_fill_the_plan()
@@ -38,4 +38,9 @@ pub fn filled_bytes_are_planned_or_kept()
 /// A filled image agrees with the image wherever nothing is claimed.
 pub fn what_is_not_claimed_stays()
     ensures { UntouchedLaw }
+{}
+
+/// No call writes to the image before the journal is open and synced, and those behind write the fill of planned ranges alone.
+pub fn only_what_the_journal_says_is_filled()
+    ensures { AcknowledgedLaw }
 {}
