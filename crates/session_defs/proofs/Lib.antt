@@ -4,3 +4,4 @@ pub mod Filled
 pub mod Marks
 pub mod OutcomeLaws
 pub mod Acknowledged
+pub mod Rows
