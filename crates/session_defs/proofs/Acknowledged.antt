@@ -4,16 +4,18 @@ use Rattle.std.specs.List.{All, Contains, flat_map}
 use Rattle.std.proofs.lemmas.Bool.{cases_lt, cond_both}
 use Rattle.std.proofs.lemmas.List.{append_assoc, drop-replicate, drop_at, length-replicate, nil_from_length, take_at}
 use Rattle.std.proofs.lemmas.List.Elements.{All-append, All-cons, All-contains_itself, All-drop, All-head, All-nil, All-same, All-tail, All-take, All-weaker}
-use Rattle.disk_defs.specs.Story.{Change, Cut, Sync, Write}
+use Rattle.disk_defs.specs.Story.{Change, Cut, Held, Sync, Write}
 use Rattle.disk_defs.specs.declared.Area.TheVariants.{Image, Journal}
-use Rattle.journal_defs.specs.Form.{first_journal, groups_of}
+use Rattle.journal_defs.specs.Form.{IsJournal, first_journal, groups_of, journal_bytes}
 use Rattle.journal_defs.specs.declared.TheConstants.{OPEN_GATE, SET_MARK}
+use Rattle.journal_defs.proofs.JournalLaws.{first_journal_law}
 use Rattle.range_defs.specs.declared.Claim.{Claim}
 use Rattle.rx_ranges.specs.declared.plan.Plan.{Plan}
+use Rattle.session_defs.proofs.Marks.{journal_made}
 use Rattle.session_defs.proofs.OutcomeLaws.{all_unmarked}
 use Rattle.session_defs.proofs.Writes.{take_equal, writes_first, writes_none}
-use Rattle.session_defs.specs.Outcome.{AcknowledgedLaw, AreFillOf, IsFillIn, LeavesImage, unmarked_ranges}
-use Rattle.session_defs.specs.Script.{Call, byte_call, closing_calls, fill_calls, group_calls, is_complete, journal_calls, mark_place, pieces_in, ranges_of_group, rest_of, script, sync, unmarked, unmarked_calls, write_pieces, writes}
+use Rattle.session_defs.specs.Outcome.{AcknowledgedLaw, AreFillOf, IsFillIn, LeavesImage, changed_all, unmarked_ranges}
+use Rattle.session_defs.specs.Script.{Call, byte_call, changes_of, closing_calls, fill_calls, group_calls, is_complete, journal_calls, mark_place, pieces_in, ranges_of_group, rest_of, script, sync, unmarked, unmarked_calls, write_pieces, writes}
 use Rattle.session_defs.specs.declared.TheConstants.{PIECE}
 use Rattle.session_defs.specs.declared.Turn.{Turn}
 use Rattle.session_defs.specs.declared.Turn.TheVariants.{Armed, Cleared, Closed, Filled, Marked, Opened, Wrote}
@@ -141,5 +143,9 @@ unmarked_filled plan groups last =
     (λ complete. All-nil (Fills claims))
     (λ incomplete. rest_filled claims plan groups (All-contains_itself claims))
 
+opened : (plan : Plan) (first : Held) → IsJournal (changed_all (changes_of (journal_calls plan)) first).journal plan (unmarked plan) false
+unfolding journal_bytes
+opened plan first = subst (λ (held : Held). IsJournal held.journal plan (unmarked plan) false) (sym (journal_made plan first)) (first_journal_law plan)
+
 pub acknowledged_law : AcknowledgedLaw
-acknowledged_law plan = record { journal_first = journal_first plan; planned_alone = script_filled plan; unmarked_alone = unmarked_filled plan }
+acknowledged_law plan = record { opened = opened plan; image_stays = journal_first plan; planned_alone = script_filled plan; unmarked_alone = unmarked_filled plan }

@@ -9,7 +9,7 @@ use Rattle.std.proofs.lemmas.List.Elements.{All-head, All-tail}
 use Rattle.disk_defs.specs.Story.{overwritten}
 use Rattle.disk_defs.proofs.StoryLaws.{length-overwritten}
 use Rattle.range_defs.specs.declared.Claim.{Claim}
-use Rattle.range_defs.specs.Claims.{IsFillMap, lesser_paint, painted}
+use Rattle.range_defs.specs.Claims.{IsFillMap, lesser_paint, paint_of, painted}
 use Rattle.range_defs.proofs.ClaimLaws.{paint_before, paint_behind, paint_inside}
 use Rattle.rx_ranges.specs.PlanChecks.{IsClaimIn}
 use Rattle.session_defs.specs.Outcome.{filled_byte, filled_from, filled, FilledLengthLaw, FilledBytesLaw, UntouchedLaw}
@@ -141,18 +141,19 @@ one_byte_filled claim image i within inside =
     let front : length (take at image) ≡ at = omega (arith, within, length-take at image) in
     let long : length fills ≡ len = length-replicate len claim.fill in
     let behind = drop (at + length fills) image in
+    let by_paint = λ (paint : Option (ℕ × ℕ)) (is : paint_of claim i ≡ paint). ap (λ paint. filled_byte (lesser_paint paint None) (slice_index_or image i 0)) is in
     ⊎_elim
     (λ before. get_or_append_left (take at image) (fills ++ behind) 0 i (omega (arith, before, front))
-    ∙ get_or-take at image i 0 before ∙ sym (ap (λ paint. filled_byte (lesser_paint paint None) (slice_index_or image i 0)) (paint_before claim i before)))
+    ∙ get_or-take at image i 0 before ∙ sym (by_paint None (paint_before claim i before)))
     (λ begun. get_or-append_right (take at image) (fills ++ behind) at i 0 front begun
     ∙ ⊎_elim
     (λ in_it. get_or_append_left fills behind 0 (i - at) (omega (arith, in_it, begun, long))
     ∙ get_or-replicate len (i - at) claim.fill 0 (omega (arith, in_it, begun))
-    ∙ sym (ap (λ paint. filled_byte (lesser_paint paint None) (slice_index_or image i 0)) (paint_inside claim i begun in_it)))
+    ∙ sym (by_paint (Some (claim.rule, claim.fill)) (paint_inside claim i begun in_it)))
     (λ past. get_or-append_right fills behind len (i - at) 0 long (omega (arith, past))
     ∙ get_or-drop (at + length fills) image (i - at - len) 0
     ∙ ap (λ place. slice_index_or image place 0) (omega (arith, past, begun, long))
-    ∙ sym (ap (λ paint. filled_byte (lesser_paint paint None) (slice_index_or image i 0)) (paint_behind claim i past)))
+    ∙ sym (by_paint None (paint_behind claim i past)))
     (cases_lt i (at + len)))
     (cases_lt i at)
 

@@ -13,7 +13,7 @@ use Rattle.range_defs.specs.Places.{covers}
 use Rattle.range_defs.specs.Claims.{painted}
 use Rattle.rx_ranges.specs.PlanChecks.{IsPlan}
 use Rattle.rx_ranges.specs.declared.plan.Plan.{Plan}
-use Rattle.session_defs.specs.Script.{journal_calls, ranges_of_group, script, rest_of, changes_of}
+use Rattle.session_defs.specs.Script.{journal_calls, ranges_of_group, script, rest_of, changes_of, unmarked}
 
 -- the fill that a byte has by its paint, or else the byte itself
 abbrev pub filled_byte : Option (ℕ × ℕ) → ℕ → ℕ
@@ -104,13 +104,15 @@ IsFillIn claims (Write Journal at bytes) = Unit {0}
 IsFillIn claims (Cut len) = Unit {0}
 IsFillIn claims Sync = Unit {0}
 
--- No call writes to the image before the journal of the plan is open and synced. The calls behind that write to it only inside the
--- ranges of the plan, and those that are left of an open journal only inside the ranges of the groups that aren't marked, each
--- range's fill alone.
+-- The first calls of a plan make its journal open without a set mark, whatever it was, and none of them writes to the image. All
+-- calls write to the image only inside the ranges of the plan, and those that are left of an open journal only inside the ranges
+-- of the groups that aren't marked, each range's fill alone.
 pub record IsAcknowledged (plan : Plan) : Type 0 where
-  pub journal_first : All (λ call. LeavesImage call.change) (journal_calls plan)
+  pub opened : (first : Held) → IsJournal (changed_all (changes_of (journal_calls plan)) first).journal plan (unmarked plan) false
+  pub image_stays : All (λ call. LeavesImage call.change) (journal_calls plan)
   pub planned_alone : All (λ call. IsFillIn plan.ranges call.change) (script plan)
   pub unmarked_alone : (groups : List Bool) (last : Bool) → All (λ call. IsFillIn (unmarked_ranges plan 0 groups) call.change) (rest_of plan groups last)
 
+-- This holds of each plan.
 abbrev pub AcknowledgedLaw : Type 0
 AcknowledgedLaw = (plan : Plan) → IsAcknowledged plan

@@ -40,7 +40,7 @@ pub fn what_is_not_claimed_stays()
     ensures { UntouchedLaw }
 {}
 
-/// No call writes to the image before the journal is open and synced, and those behind write the fill of planned ranges alone.
+/// No call writes to the image before the journal of the plan is open, and those behind write the fill of planned ranges alone.
 pub fn only_what_the_journal_says_is_filled()
     ensures { AcknowledgedLaw }
 {}
