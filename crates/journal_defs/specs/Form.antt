@@ -1,6 +1,6 @@
 -- The form of a journal.
-use Rattle.std.specs.Prelude.{◌≡◌, ℕ, ◌+◌, ◌*◌, ◌/◌, ◌<◌, ◌≤◌, ◌==◌, All, Bool, codes, map, replicate, slice_index, sum_by, List, [], ◌∷◌, ◌++◌, length}
-use Rattle.std.specs.List.{flat_map}
+use Rattle.std.specs.Prelude.{◌≡◌, ℕ, ◌+◌, ◌*◌, ◌/◌, ◌<◌, ◌≤◌, ◌==◌, ◌&&◌, All, Bool, codes, map, replicate, slice_index, sum_by, List, [], ◌∷◌, ◌++◌, length}
+use Rattle.std.specs.List.{flat_map, list_all}
 use Rattle.byteorder.specs.Endian.{little_bytes}
 use Rattle.journal_defs.specs.declared.TheConstants.{OPEN_GATE, SET_MARK, HEADER_LEN, RANGE_LEN}
 use Rattle.range_defs.specs.declared.Claim.{Claim}
@@ -70,6 +70,10 @@ IsOpen bytes = (41 ≤ length bytes) × (slice_index bytes 0 ≡ OPEN_GATE)
 -- a mark is set
 abbrev pub is_set : ℕ → Bool
 is_set byte = byte == SET_MARK
+
+-- all marks are set
+abbrev pub is_complete : List Bool → Bool → Bool
+is_complete groups last = list_all (λ mark. mark) groups && last
 
 -- an open journal of a plan, with the marks of its groups and the last mark
 pub record IsJournal (bytes : List ℕ) (plan : Plan) (groups : List Bool) (last : Bool) : Type 0 where

@@ -1,5 +1,5 @@
 -- What an answer says of a journal.
-use Rattle.std.specs.Prelude.{◌≡◌, ℕ, None, Some, Result, Ok, Err, List, length}
+use Rattle.std.specs.Prelude.{◌≡◌, ℕ, Bool, true, false, None, Some, Result, Ok, Err, List, length}
 use Rattle.disk_defs.specs.Count.{Faults, FailedIn}
 use Rattle.disk_defs.specs.declared.Area.TheVariants.{Journal}
 use Rattle.journal_defs.specs.Checks.{Check, first_failing, bad_at}
@@ -62,3 +62,8 @@ IsFaultCounted _ before now = now ≡ before
 abbrev pub IsReadCounted : {X : Type 0} → Result X JournalFault → Faults → Faults → Type 0
 IsReadCounted (Ok value) before now = now ≡ before
 IsReadCounted (Err fault) before now = IsFaultCounted fault before now
+
+-- whether a journal stands open
+abbrev pub TellsIfOpen : Bool → List ℕ → Type 0
+TellsIfOpen true bytes = IsOpen bytes
+TellsIfOpen false bytes = ¬ (IsOpen bytes)

@@ -14,12 +14,14 @@ mod decode;
 mod fault;
 mod fields;
 mod listing;
+mod open;
 mod piece;
 mod ranges;
 mod read;
 mod state;
 
 pub use fault::JournalFault;
+pub use open::stands_open;
 pub use piece::{journal_len, journal_piece};
 pub use read::read_journal;
 pub use state::{JournalState, Marks};

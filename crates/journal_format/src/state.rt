@@ -1,5 +1,7 @@
 //! What a journal holds.
-ghost use Rattle.std.specs.Prelude.{◌≡◌, ◌≢◌, ◌↔◌, All, Ok, Err, true, IsTrue};
+ghost use Rattle.std.specs.Prelude.{◌≡◌, ◌≢◌, Ok, Err};
+ghost use Rattle.std.specs.List.{list_all};
+ghost use Rattle.journal_defs.specs.Form.{is_complete};
 ghost use Rattle.journal_format.specs.declared.fault.JournalFault.TheVariants.{OtherLength};
 
 use crate::fault::JournalFault;
@@ -14,6 +16,13 @@ pub struct JournalState {
     pub plan: Plan,
     pub groups: Marks,
     pub last: bool,
+}
+
+/// Whether these marks are all set.
+fn are_set(marks: &[bool]) -> bool
+    ensures { result ≡ list_all (λ mark. mark) marks.now }
+{
+    marks.iter().all(|mark| *mark)
 }
 
 impl JournalState {
@@ -34,8 +43,8 @@ impl JournalState {
 
     /// Whether all marks are set.
     pub fn complete(&self) -> bool
-        ensures { IsTrue result ↔ (All IsTrue self.now.groups × IsTrue self.now.last) }
+        ensures { result ≡ is_complete self.now.groups self.now.last }
     {
-        self.last && self.groups.items().iter().all(|mark| *mark)
+        are_set(self.groups.items()) && self.last
     }
 }

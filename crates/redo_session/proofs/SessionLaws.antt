@@ -6,12 +6,12 @@ use Rattle.disk_defs.specs.Disk.{Sizes, State, sizes_after, state_after}
 use Rattle.disk_defs.specs.Count.{Faults}
 use Rattle.disk_defs.specs.declared.Area.TheVariants.{Image, Journal}
 use Rattle.rx_ranges.specs.declared.plan.Plan.{Plan}
-use Rattle.journal_defs.specs.Form.{first_journal, groups_of, journal_len}
+use Rattle.journal_defs.specs.Form.{is_complete, first_journal, groups_of, journal_len}
 use Rattle.journal_defs.specs.declared.TheConstants.{OPEN_GATE}
 use Rattle.rx_ranges.specs.PlanChecks.{IsPlan}
 use Rattle.session_defs.specs.declared.TheConstants.{PIECE}
 use Rattle.session_defs.specs.declared.Turn.TheVariants.{Cleared, Armed, Wrote, Opened}
-use Rattle.session_defs.specs.Script.{Call, sync, byte_call, writes, journal_calls, unmarked_calls, closing_calls, unmarked, is_complete, script, rest_of}
+use Rattle.session_defs.specs.Script.{Call, sync, byte_call, writes, journal_calls, unmarked_calls, closing_calls, unmarked, script, rest_of}
 use Rattle.session_defs.specs.Session.{SessionValue, HasSizes, new_session, calls_of, next_call, IsChangeCounted}
 use Rattle.redo_session.specs.Steps.{left, left_from_group, HasJournal, IsStep, journal_at}
 use Rattle.redo_session.specs.Sessions.{IsSession, start_of, made_at, session_of}

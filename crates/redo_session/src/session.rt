@@ -1,11 +1,10 @@
 //! A session: a plan that is carried out, one call a turn.
 ghost use Rattle.std.specs.Prelude.{◌≡◌, ◌≢◌, None, Some, false, IfOk, IfSome, OnOk, length, replicate, vec_len};
-ghost use Rattle.std.specs.List.{list_all};
 ghost use Rattle.journal_defs.specs.Form.{groups_of, journal_len};
 ghost use Rattle.rx_ranges.specs.PlanChecks.{IsPlan};
 ghost use Rattle.session_defs.specs.Session.{Begun, Resumed, Running, Ended, HasSizes, IsAnswer, IsMade, IsTurnCounted, IsTurned, new_session, next_call};
 ghost use Rattle.session_defs.specs.declared.TheConstants.{PIECE};
-ghost use Rattle.session_defs.specs.Script.{is_complete, rest_of};
+ghost use Rattle.session_defs.specs.Script.{rest_of};
 ghost use Rattle.redo_session.specs.Steps.{IsStep, journal_at, left};
 ghost use Rattle.redo_session.specs.Sessions.{stage_of};
 
@@ -66,32 +65,18 @@ fn room_for_piece(alloc: Global) -> Result<Vec<u8>, NoMemory>
     vec![in alloc; 0; PIECE]
 }
 
-/// Whether these marks are all set.
-fn are_set(marks: &[bool]) -> bool
-    ensures { result ≡ list_all (λ mark. mark) marks.now }
-{
-    marks.iter().all(|mark| *mark)
-}
-
-/// Whether all marks of a journal are set.
-fn is_complete(groups: &[bool], last: bool) -> bool
-    ensures { result ≡ is_complete groups.now last }
-{
-    are_set(groups) && last
-}
-
 /// The step with which the groups that aren't marked are begun, or the end where all marks are set.
-fn first_step(plan: &Plan, groups: &[bool], last: bool) -> Step
-    requires plan { IsPlan plan.now }
-    requires groups { length groups.now ≡ groups_of plan.now }
-    ensures step { IsStep plan.now result }
-    ensures journal { journal_at plan.now result ≡ Some (journal_len plan.now) }
-    ensures left { left plan.now groups.now result ≡ rest_of plan.now groups.now last }
+fn first_step(state: &JournalState) -> Step
+    requires plan { IsPlan state.now.plan }
+    requires groups { length state.now.groups ≡ groups_of state.now.plan }
+    ensures step { IsStep state.now.plan result }
+    ensures journal { journal_at state.now.plan result ≡ Some (journal_len state.now.plan) }
+    ensures left { left state.now.plan state.now.groups result ≡ rest_of state.now.plan state.now.groups state.now.last }
 {
-    if is_complete(groups, last) {
+    if state.complete() {
         return Step::End;
     }
-    next_group(plan, groups, 0)
+    next_group(&state.plan, state.groups.items(), 0)
 }
 
 impl<'p> Session<'p> {
@@ -119,7 +104,7 @@ impl<'p> Session<'p> {
         ensures { IfOk result (λ session. session ≡ new_session state.now.plan (Resumed state.now.groups state.now.last) (Some (journal_len state.now.plan))) }
     {
         let marks = Vec::from_slice(alloc, state.groups.items())?;
-        let step = first_step(&state.plan, &marks, state.last);
+        let step = first_step(state);
         Ok(Session {
             plan: &state.plan,
             marks,

@@ -6,7 +6,7 @@ use Rattle.std.proofs.lemmas.List.{append_assoc, drop-replicate, drop_at, length
 use Rattle.std.proofs.lemmas.List.Elements.{All-append, All-cons, All-contains_itself, All-drop, All-head, All-nil, All-same, All-tail, All-take, All-weaker}
 use Rattle.disk_defs.specs.Story.{Change, Cut, Held, Sync, Write}
 use Rattle.disk_defs.specs.declared.Area.TheVariants.{Image, Journal}
-use Rattle.journal_defs.specs.Form.{IsJournal, first_journal, groups_of, journal_bytes}
+use Rattle.journal_defs.specs.Form.{is_complete, IsJournal, first_journal, groups_of, journal_bytes}
 use Rattle.journal_defs.specs.declared.TheConstants.{OPEN_GATE, SET_MARK}
 use Rattle.journal_defs.proofs.JournalLaws.{first_journal_law}
 use Rattle.range_defs.specs.declared.Claim.{Claim}
@@ -15,7 +15,7 @@ use Rattle.session_defs.proofs.Marks.{journal_made}
 use Rattle.session_defs.proofs.OutcomeLaws.{all_unmarked}
 use Rattle.session_defs.proofs.Writes.{take_equal, writes_first, writes_none}
 use Rattle.session_defs.specs.Outcome.{AcknowledgedLaw, AreFillOf, IsFillIn, LeavesImage, changed_all, unmarked_ranges}
-use Rattle.session_defs.specs.Script.{Call, byte_call, changes_of, closing_calls, fill_calls, group_calls, is_complete, journal_calls, mark_place, pieces_in, ranges_of_group, rest_of, script, sync, unmarked, unmarked_calls, write_pieces, writes}
+use Rattle.session_defs.specs.Script.{Call, byte_call, changes_of, closing_calls, fill_calls, group_calls, journal_calls, mark_place, pieces_in, ranges_of_group, rest_of, script, sync, unmarked, unmarked_calls, write_pieces, writes}
 use Rattle.session_defs.specs.declared.TheConstants.{PIECE}
 use Rattle.session_defs.specs.declared.Turn.{Turn}
 use Rattle.session_defs.specs.declared.Turn.TheVariants.{Armed, Cleared, Closed, Filled, Marked, Opened, Wrote}

@@ -6,7 +6,7 @@ use Rattle.std.proofs.lemmas.Bool.{and_parts, cond_both, eqb-true}
 use Rattle.std.proofs.lemmas.List.{append_assoc, drop-drop, length-append, length-drop, length-replicate, nil_from_length, take-append-drop}
 use Rattle.disk_defs.specs.Story.{Held, overwritten}
 use Rattle.disk_defs.specs.declared.Area.TheVariants.{Image}
-use Rattle.journal_defs.specs.Form.{groups_of, is_set, journal_bytes}
+use Rattle.journal_defs.specs.Form.{is_complete, groups_of, is_set, journal_bytes}
 use Rattle.journal_defs.specs.declared.TheConstants.{GROUP_RANGES, OPEN_GATE, SET_MARK}
 use Rattle.range_defs.specs.declared.Claim.{Claim}
 use Rattle.rx_ranges.specs.PlanChecks.{IsPlan}
@@ -15,7 +15,7 @@ use Rattle.session_defs.proofs.Filled.{AreInOrder, each_filled, fill_map_in_orde
 use Rattle.session_defs.proofs.Made.{made_both, writes_made}
 use Rattle.session_defs.proofs.Marks.{journal_made, last_set, mark_set}
 use Rattle.session_defs.specs.Outcome.{RestLaw, ScriptLaw, changed_all, done_journal, filled, unmarked_ranges}
-use Rattle.session_defs.specs.Script.{byte_call, changes_of, closing_calls, fill_calls, group_calls, is_complete, journal_calls, mark_place, ranges_of_group, rest_of, sync, unmarked, unmarked_calls}
+use Rattle.session_defs.specs.Script.{byte_call, changes_of, closing_calls, fill_calls, group_calls, journal_calls, mark_place, ranges_of_group, rest_of, sync, unmarked, unmarked_calls}
 use Rattle.session_defs.specs.declared.Turn.TheVariants.{Filled, Marked}
 
 -- what both areas hold

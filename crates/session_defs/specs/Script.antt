@@ -1,10 +1,10 @@
 -- The calls that carry out a plan.
-use Rattle.std.specs.Prelude.{ℕ, zero, suc, ◌+◌, ◌-◌, ◌*◌, ◌/◌, Bool, true, false, ◌&&◌, if◌then◌else◌, replicate, take, drop, List, [], ◌∷◌, ◌++◌, length, map}
-use Rattle.std.specs.List.{flat_map, list_all}
+use Rattle.std.specs.Prelude.{ℕ, zero, suc, ◌+◌, ◌-◌, ◌*◌, ◌/◌, Bool, true, false, if◌then◌else◌, replicate, take, drop, List, [], ◌∷◌, ◌++◌, length, map}
+use Rattle.std.specs.List.{flat_map}
 use Rattle.disk_defs.specs.Story.{Change, Write, Cut, Sync}
 use Rattle.disk_defs.specs.declared.Area.{Area}
 use Rattle.disk_defs.specs.declared.Area.TheVariants.{Image, Journal}
-use Rattle.journal_defs.specs.Form.{first_journal, groups_of, listing_len}
+use Rattle.journal_defs.specs.Form.{first_journal, groups_of, is_complete, listing_len}
 use Rattle.journal_defs.specs.declared.TheConstants.{OPEN_GATE, SET_MARK, HEADER_LEN, RANGE_LEN, GROUP_RANGES}
 use Rattle.range_defs.specs.declared.Claim.{Claim}
 use Rattle.rx_ranges.specs.declared.plan.Plan.{Plan}
@@ -83,10 +83,6 @@ closing_calls plan = sync ∷ byte_call Closed (mark_place plan (groups_of plan)
 -- no group is marked
 abbrev pub unmarked : Plan → List Bool
 unmarked plan = replicate (groups_of plan) false
-
--- all marks are set
-abbrev pub is_complete : List Bool → Bool → Bool
-is_complete groups last = list_all (λ mark. mark) groups && last
 
 -- the calls that carry out a plan
 abbrev pub script : Plan → List Call
