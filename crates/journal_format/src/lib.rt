@@ -26,8 +26,5 @@ pub use piece::{journal_len, journal_piece};
 pub use read::read_journal;
 pub use state::{JournalState, Marks};
 
-/// Memory ran out.
-pub type NoMemory = std::alloc::AllocError;
-
 #[cfg(test)]
 mod tests;

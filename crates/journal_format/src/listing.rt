@@ -156,7 +156,8 @@ pub(crate) fn read_lines(
         at = end_of(bytes, at);
         lines.push(line)?;
     }
-    if at < end {
+    let left = end - at;
+    if left > 0 {
         return Err(JournalFault::Bad { at: at as u64 });
     }
     Ok(lines)

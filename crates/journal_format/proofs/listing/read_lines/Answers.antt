@@ -20,8 +20,8 @@ loop-preserved c =
       read = rw (c.in_ok-push.ensures.items, c.end_of-at.ensures) read;
     }
 
-pub returns-then-at-end-clause-says : goal.returns-then-at-end-clause-says
-returns-then-at-end-clause-says c = bytes_left c.args.bytes.now c.args.end c.loop.at _ _ (omega arith) c.if-at-end.true c.loop.invariant.left
+pub returns-then-left-gt0-clause-says : goal.returns-then-left-gt0-clause-says
+returns-then-left-gt0-clause-says c = bytes_left c.args.bytes.now c.args.end c.loop.at _ _ (omega arith) (omega (arith, c.if-left-gt0.true)) c.loop.invariant.left
 
 pub returns-clause-says : goal.returns-clause-says
-returns-clause-says c = no_bytes_left c.args.bytes.now c.args.end c.loop.at _ _ (omega arith) c.if-at-end.false c.loop.invariant.left
+returns-clause-says c = no_bytes_left c.args.bytes.now c.args.end c.loop.at _ _ (omega arith) (omega (arith, c.if-left-gt0.false, c.loop.invariant.inside)) c.loop.invariant.left

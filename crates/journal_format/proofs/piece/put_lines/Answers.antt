@@ -1,5 +1,4 @@
-use Rattle.std.proofs.Common.{◌≡◌, ap, ◌∙◌, arith, refl, ◌+◌, length, sum_by, take}
-use Rattle.rx_ranges.specs.PlanChecks.{listed_len}
+use Rattle.std.proofs.Common.{arith, refl}
 use Rattle.journal_format.proofs.Fills.{fills_none, lines_more, lines_end, place_more}
 use Rattle.journal_format.proofs.piece.put_lines.Goals as goal
 

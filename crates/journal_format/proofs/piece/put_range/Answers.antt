@@ -1,6 +1,3 @@
-use Rattle.std.proofs.Common.{arith, ◌+◌, ◌≡◌, length}
-use Rattle.journal_defs.specs.Form.{little, range_bytes}
-use Rattle.journal_format.specs.Filled.{FillsNext}
 use Rattle.journal_format.proofs.Fills.{range_fills}
 use Rattle.journal_format.proofs.piece.put_range.Goals as goal
 

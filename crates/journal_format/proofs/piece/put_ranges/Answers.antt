@@ -1,4 +1,4 @@
-use Rattle.std.proofs.Common.{◌≡◌, ap, ◌∙◌, arith, refl, ◌-◌, ◌/◌, ◌+◌, min, max, length}
+use Rattle.std.proofs.Common.{ap, ◌∙◌, arith, refl, ◌-◌, ◌/◌, ◌+◌, min, length}
 use Rattle.std.proofs.lemmas.List.{get_or_default}
 use Rattle.journal_format.proofs.Fills.{ranges_begin, ranges_more, ranges_end}
 use Rattle.journal_format.proofs.piece.put_ranges.Goals as goal
