@@ -6,7 +6,6 @@ use Rattle.std.proofs.lemmas.List.Elements.{All-from_get_or}
 use Rattle.bytes_defs.proofs.NumberLaws.{number_at_part}
 use Rattle.bytes_defs.specs.Bytes.{part}
 use Rattle.bytes_defs.specs.declared.order.Order.TheVariants.{Little}
-use Rattle.disk_defs.specs.Count.{Faults}
 use Rattle.journal_defs.specs.Checks.{Check, first_failing, header_checks, ranges_checks, lines_checks, journal_checks, bad_at}
 use Rattle.journal_defs.specs.Form.{group_count, groups_of, is_set, journal_len, IsOpen, IsJournal}
 use Rattle.journal_defs.specs.Reading.{image_len_in, range_count_in, line_count_in, listing_place, listing_end, claims_in, plan_in, groups_in, last_in}
@@ -16,7 +15,7 @@ use Rattle.journal_defs.proofs.Journals.{header_holds}
 use Rattle.journal_defs.proofs.Passing.{pass_all}
 use Rattle.journal_defs.proofs.Ranges.{ranges_written}
 use Rattle.journal_format.proofs.Steps.{fails_with}
-use Rattle.journal_format.specs.Says.{Says, Decodes, IsState, FailsWith, IsReadCounted}
+use Rattle.journal_format.specs.Says.{Says, Decodes, IsState, FailsWith}
 use Rattle.journal_format.specs.declared.fault.JournalFault.{JournalFault}
 use Rattle.journal_format.specs.declared.fault.JournalFault.TheVariants.{NotOpen, Bad, OtherLength, Device, NoMemory}
 use Rattle.journal_format.specs.declared.state.JournalState.{JournalState}
@@ -142,26 +141,7 @@ header_says bytes header len fault long is enough gate fails =
     let same : header_checks header len ≡ header_checks bytes (length bytes) = ap (λ header. header_checks header len) is ∙ header_numbers bytes len ∙ ap (header_checks bytes) (sym long) in
     fault_says bytes fault (omega (arith, long, enough), sym (gate_read bytes header is) ∙ gate) (header_refuses bytes fault (subst P same fails))
 
--- ---- an answer for which no call is made
-
-pub fails_calmly : (checks : List Check) (fault : JournalFault) → FailsWith checks fault → fault ≡ Device → ⊥
-fails_calmly checks fault fails is =
-    let P : JournalFault → Type 0 = λ fault. FailsWith checks fault in
-    subst P is fails
-
-pub counts_nothing : {X : Type 0} (result : Result X JournalFault) (before now : Faults) → (result ≡ Err Device → ⊥) → now ≡ before → IsReadCounted result before now
-counts_nothing (Ok value) before now calm same = same
-counts_nothing (Err NotOpen) before now calm same = same
-counts_nothing (Err (Bad at)) before now calm same = same
-counts_nothing (Err (OtherLength kept found)) before now calm same = same
-counts_nothing (Err Device) before now calm same = absurd (calm cc)
-counts_nothing (Err NoMemory) before now calm same = same
-
--- a fault of the device isn't decoded
-pub decodes_calmly : (bytes : List ℕ) (result : Result JournalState JournalFault) → Decodes bytes result → result ≡ Err Device → ⊥
-decodes_calmly bytes result decodes is =
-    let P : Result JournalState JournalFault → Type 0 = Decodes bytes in
-    subst P is decodes
+-- ---- what is told
 
 says : (bytes : List ℕ) (result : Result JournalState JournalFault) → Decodes bytes result → Says bytes result
 says bytes (Ok state) decodes = decodes
@@ -179,15 +159,6 @@ decoded_told (Some journal) later bytes result same read decodes =
     let P : Option (List ℕ) → Type 0 = λ told. IfSome told (λ journal. bytes ≡ journal) in
     let Q : List ℕ → Type 0 = λ journal. Says journal result in
     subst Q (subst P same read) (says bytes result decodes)
-
--- a header that is refused refuses the journal, where that is told
-pub refused_told : (told later : Option (List ℕ)) (header : List ℕ) (len : ℕ) (fault : JournalFault) → later ≡ told → IfSome told (λ journal. length journal ≡ len)
-    → IfSome later (λ journal. header ≡ part journal 0 40) → ((journal : List ℕ) → length journal ≡ len → header ≡ part journal 0 40 → Decodes journal (Err fault))
-    → IfSome told (λ journal. Says journal (Err fault))
-refused_told None later header len fault same long read refused = tt
-refused_told (Some journal) later header len fault same long read refused =
-    let P : Option (List ℕ) → Type 0 = λ told. IfSome told (λ journal. header ≡ part journal 0 40) in
-    says journal (Err fault) (refused journal long (subst P same read))
 
 -- a read of the whole area gives all that it holds
 pub all_read : (told : Option (List ℕ)) (size : ℕ) (buf : List ℕ) → IfSome told (λ bytes. length bytes ≡ size) → length buf ≡ size → IfSome told (λ bytes. buf ≡ part bytes 0 (length buf))
