@@ -1,0 +1,5 @@
+pub mod ExtentLaws
+pub mod Pushed
+pub mod PieceLaws
+pub mod SlackLaws
+pub mod FoundLaws

@@ -1,0 +1,30 @@
+use Rattle.std.proofs.Common.{sym, ◌∙◌}
+use Rattle.hfs_extents.proofs.FoundLaws.{fault_answers, fault_refuses, ends_inside, few_bytes, found_is}
+use Rattle.hfs_extents.proofs.fork.fork_runs.Goals as goal
+
+pub returns-in-Some-clause-found : goal.returns-in-Some-clause-found
+returns-in-Some-clause-found c = fault_answers c.args.header.now c.args.records.now c.args.fork.now c.args.place c.in-Some.refusal c.from.result c.in-Some.ensures.value c.from.ensures
+
+pub returns-in-Some-clause-refusals : goal.returns-in-Some-clause-refusals
+returns-in-Some-clause-refusals c = fault_refuses c.args.header.now c.args.records.now c.args.fork.now c.args.place c.in-Some.refusal c.from.result c.in-Some.ensures.value c.from.ensures
+
+pub pieces_of-requires-clause-inside : goal.pieces_of-requires-clause-inside
+pieces_of-requires-clause-inside c =
+    ends_inside c.args.header.now c.args.records.now c.args.fork.now c.args.place c.as_slice-extents.result.now c.in_default.ensures.value (c.as_slice-extents.ensures.value ∙ c.in_ok-list.ensures)
+
+pub pieces_of-requires-clause-few : goal.pieces_of-requires-clause-few
+pieces_of-requires-clause-few c =
+    few_bytes c.args.header.now c.args.records.now c.args.fork.now c.args.place c.as_slice-extents.result.now c.in_default.ensures.value (c.as_slice-extents.ensures.value ∙ c.in_ok-list.ensures) c.in_default.ensures.fits
+
+pub slack_of-requires-clause-inside : goal.slack_of-requires-clause-inside
+slack_of-requires-clause-inside c =
+    ends_inside c.args.header.now c.args.records.now c.args.fork.now c.args.place c.as_slice-extents.result.now c.in_default.ensures.value (c.as_slice-extents.ensures.value ∙ c.in_ok-list.ensures)
+
+pub slack_of-requires-clause-few : goal.slack_of-requires-clause-few
+slack_of-requires-clause-few c =
+    few_bytes c.args.header.now c.args.records.now c.args.fork.now c.args.place c.as_slice-extents.result.now c.in_default.ensures.value (c.as_slice-extents.ensures.value ∙ c.in_ok-list.ensures) c.in_default.ensures.fits
+
+pub returns-clause-found : goal.returns-clause-found
+returns-clause-found c =
+    found_is c.args.header.now c.args.records.now c.args.fork.now c.args.place c.as_slice-extents.result.now c.in_ok-pieces_of.field-0 c.in_ok-slack_of.field-0 (sym c.in_default.ensures.value)
+    (c.as_slice-extents.ensures.value ∙ c.in_ok-list.ensures) c.in_ok-pieces_of.ensures.value c.in_ok-slack_of.ensures

@@ -1,0 +1,64 @@
+//! A fork: what is wrong with it, its pieces and its slack.
+ghost use Rattle.std.specs.Prelude.{◌≡◌, ◌+◌, ◌^◌, ◌<◌, IfOk, IfErr};
+ghost use Rattle.hfs_defs.specs.Forks.{extents_with, found_fork, byte_place};
+ghost use Rattle.hfs_extents.specs.Extents.{AreNear, LiesInImage};
+ghost use Rattle.hfs_extents.specs.Found.{found_in, IsForkRefusal};
+ghost use Rattle.piece_defs.specs.Joined.{AreInARow};
+ghost use Rattle.piece_defs.specs.Places.{ArePiecesAt, AreWithin};
+ghost use Rattle.rx_store.specs.Answers.{Answers};
+
+use crate::extents::fork_fault;
+use crate::pieces::{pieces_of, slack_of};
+use hfs_defs::forks::{Extent, Fork, OverflowRecord};
+use hfs_defs::header::Header;
+use rx_ranges::{Pieces, RangeList};
+use rx_store::ReadFault;
+use std::alloc::{AllocError, Global};
+
+/// What is found of a fork: the pieces of its bytes, and its slack, which is what its blocks have behind them.
+#[derive(Debug, Drop)]
+pub struct ForkRuns {
+    pub pieces: Pieces,
+    pub slack: RangeList,
+}
+
+/// The extents of a fork: its eight, and then those of its overflow records.
+fn all_extents(
+    alloc: Global,
+    records: &[OverflowRecord],
+    fork: &Fork,
+) -> Result<Vec<Extent>, AllocError>
+    ensures { IfOk result (λ extents. extents.items ≡ extents_with records.now fork.now) }
+{
+    let mut extents = Vec::from_slice(alloc, &fork.extents)?;
+    for record in records {
+        extents.extend_from_slice(&record.extents)?;
+    }
+    Ok(extents)
+}
+
+/// The pieces and the slack of a fork with these overflow records, whose fork data stand at a place.
+pub(crate) fn fork_runs(
+    alloc: Global,
+    header: &Header,
+    records: &[OverflowRecord],
+    fork: &Fork,
+    place: u64,
+) -> Result<ForkRuns, ReadFault>
+    requires lies { LiesInImage header.now }
+    requires near { place < 2 ^ 62 }
+    requires records_near { AreNear records.now }
+    ensures found { Answers (found_in result) (found_fork header.now records.now fork.now place) }
+    ensures within { IfOk result (λ runs. AreWithin (header.now.at + header.now.len) runs.pieces) }
+    ensures refusals { IfErr result (IsForkRefusal place) }
+{
+    if let Some(refusal) = fork_fault(header, records, fork, place) {
+        return Err(ReadFault::from(refusal));
+    }
+    let list = all_extents(alloc, records, fork)?;
+    let extents = list.as_slice();
+    Ok(ForkRuns {
+        pieces: pieces_of(alloc, header, fork.logical_size, extents)?,
+        slack: slack_of(alloc, header, fork.logical_size, extents)?,
+    })
+}

@@ -1,0 +1,8 @@
+//! Finds where the forks of an HFS+ volume stand.
+#![tactic(auto)]
+
+mod extents;
+mod fork;
+mod pieces;
+
+pub use fork::ForkRuns;
