@@ -3,3 +3,5 @@ pub mod Pushed
 pub mod PieceLaws
 pub mod SlackLaws
 pub mod FoundLaws
+pub mod RecordLaws
+pub mod SortLaws

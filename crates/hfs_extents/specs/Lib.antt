@@ -1,2 +1,3 @@
 pub mod Extents
 pub mod Found
+pub mod Overflow

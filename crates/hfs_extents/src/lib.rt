@@ -4,5 +4,6 @@
 mod extents;
 mod fork;
 mod pieces;
+mod records;
 
 pub use fork::ForkRuns;
