@@ -1,25 +1,31 @@
 -- What is found of a fork, and what its answer says.
-use Rattle.std.specs.Prelude.{◌≡◌, ℕ, ◌+◌, ◌*◌, ◌^◌, ◌<◌, ◌≤◌, Bool, true, false, ◌&&◌, ◌==◌, nat_le, if◌then◌else◌, Option, Some, None, Result, Ok, Err, List, [], ◌∷◌, ◌++◌, refl}
+use Rattle.std.specs.Prelude.{◌≡◌, ℕ, ◌+◌, ◌*◌, ◌^◌, ◌<◌, ◌≤◌, Bool, true, false, not, ◌&&◌, ◌==◌, nat_le, nat_lt, if◌then◌else◌, Option, Some, None, Result, Ok, Err, List, [], ◌∷◌, ◌++◌, refl}
 use Rattle.std.specs.List.{All}
 use Rattle.std.proofs.Common.{ap, sym, ◌∙◌, subst, arith, inl, inr}
-use Rattle.std.proofs.lemmas.Bool.{and_parts}
+use Rattle.std.proofs.lemmas.Bool.{and_parts, ltb-false}
 use Rattle.std.proofs.lemmas.Bool.Decides.{Decides-eqb, nat_tests}
 use Rattle.std.proofs.lemmas.List.Elements.{All-nil, All-cons, All-append}
 use Rattle.range_defs.specs.declared.Range.{Range}
+use Rattle.range_defs.specs.declared.TheConstants.{LONGEST_IMAGE}
 use Rattle.rx_ranges.specs.declared.pieces.Piece.{Piece}
+use Rattle.piece_defs.specs.Joined.{AreInARow}
+use Rattle.piece_defs.specs.Places.{ArePiecesAt}
+use Rattle.piece_defs.proofs.JoinedLaws.{covered_row}
+use Rattle.hfs_defs.specs.Header.{IsSoundHeader, is_block_size, wrong_field}
+use Rattle.hfs_defs.proofs.ForkLaws.{fork_law}
 use Rattle.fault_defs.specs.declared.Refusal.{Refusal}
 use Rattle.fault_defs.specs.declared.Refusal.TheVariants.{NotThis, Damaged, Unsupported, Limit}
 use Rattle.fault_defs.specs.declared.Sort.TheVariants.{ForkExtent, ForkSum}
 use Rattle.rx_store.specs.Answers.{Answers}
 use Rattle.rx_store.specs.ReadFaults.{fault_of}
 use Rattle.rx_store.specs.declared.read_fault.ReadFault.{ReadFault}
-use Rattle.hfs_defs.specs.Forks.{blocks_in, passes, first_passing, written_from, written_extents, is_whole, follow_on, first_damage, fork_fault, extents_with, pieces_of, slack_of, FoundFork, found_or, found_fork}
+use Rattle.hfs_defs.specs.Forks.{blocks_in, passes, first_passing, written_from, written_extents, is_whole, follow_on, first_damage, fork_fault, extents_with, byte_place, pieces_of, slack_of, FoundFork, found_or, found_fork}
 use Rattle.hfs_defs.specs.ForkDamage.{extents_in}
 use Rattle.hfs_defs.specs.declared.forks.Extent.{Extent}
 use Rattle.hfs_defs.specs.declared.forks.Fork.{Fork}
 use Rattle.hfs_defs.specs.declared.forks.OverflowRecord.{OverflowRecord}
 use Rattle.hfs_defs.specs.declared.header.Header.{Header}
-use Rattle.hfs_extents.specs.Extents.{EndsIn}
+use Rattle.hfs_extents.specs.Extents.{EndsIn, LiesInImage}
 use Rattle.hfs_extents.specs.Found.{IsForkRefusal}
 use Rattle.hfs_extents.proofs.ExtentLaws.{written_in}
 
@@ -115,3 +121,35 @@ pub few_bytes : (header : Header) (records : List OverflowRecord) (fork : Fork) 
 few_bytes header records fork place extents none is fits =
     let P : ℕ → Type 0 = λ blocks. blocks * header.block_size < 2 ^ 64 in
     subst P (sym (ap blocks_in is ∙ (without_fault header records fork place (sym none)).whole)) fits
+
+-- ---- the volume of a sound header
+
+abbrev wrong_place : Bool → Bool → Option ℕ
+wrong_place good over = if not good then Some 40 else (if over then Some 44 else None)
+
+-- the blocks lie in the volume, and have bytes
+pub sound_lies : (header : Header) → IsSoundHeader header → header.at + header.len ≤ LONGEST_IMAGE → LiesInImage header
+unfolding wrong_field
+sound_lies header sound ends = record { blocks = either (is_block_size header.block_size) (nat_lt header.len (header.total_blocks * header.block_size)) refl sound.right; ends = ends }
+  where
+    either : (good over : Bool) → nat_lt header.len (header.total_blocks * header.block_size) ≡ over → wrong_place good over ≡ None → header.total_blocks * header.block_size ≤ header.len
+    either false over is wrong = absurd cc
+    either true true is wrong = absurd cc
+    either true false is right = ltb-false header.len (header.total_blocks * header.block_size) is
+
+have_bytes : (header : Header) → wrong_field header ≡ None → 0 < header.block_size
+unfolding wrong_field is_block_size
+have_bytes header none = grind (arith, nat_tests)
+
+pub some_bytes : (header : Header) → IsSoundHeader header → 0 < header.block_size
+some_bytes header sound = have_bytes header sound.right
+
+-- the pieces are the fork's
+pub found_placed : (header : Header) (records : List OverflowRecord) (fork : Fork) (place : ℕ) (extents : List Extent) (pieces : List Piece) → IsSoundHeader header → None ≡ fork_fault header records fork place
+    → extents ≡ extents_with records fork → pieces ≡ pieces_of header fork.logical_size extents → ArePiecesAt (byte_place header (extents_with records fork)) fork.logical_size pieces
+found_placed header records fork place extents pieces sound none all is =
+    let P : List Piece → Type 0 = λ list. ArePiecesAt (byte_place header (extents_with records fork)) fork.logical_size list in
+    subst P (sym (is ∙ ap (pieces_of header fork.logical_size) all)) (fork_law header records fork place (some_bytes header sound) (sym none))
+
+pub found_covered : (header : Header) (records : List OverflowRecord) (fork : Fork) (pieces : List Piece) → ArePiecesAt (byte_place header (extents_with records fork)) fork.logical_size pieces → AreInARow 0 fork.logical_size pieces
+found_covered header records fork pieces are = covered_row 0 fork.logical_size pieces are.covered

@@ -5,3 +5,5 @@ pub mod SlackLaws
 pub mod FoundLaws
 pub mod RecordLaws
 pub mod SortLaws
+pub mod ReadLaws
+pub mod NearLaws

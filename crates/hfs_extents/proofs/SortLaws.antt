@@ -1,13 +1,12 @@
 -- Overflow records that are sorted by their first block.
-use Rattle.std.specs.Prelude.{◌≡◌, ◌≢◌, ◌⊎◌, ◌==◌, true, false, ℕ, ◌≤◌, List, ◌++◌, length, drop, refl}
+use Rattle.std.specs.Prelude.{◌≡◌, ℕ, ◌≤◌, List, ◌++◌, length, drop, refl}
 use Rattle.std.specs.Borrow.{Bor}
 use Rattle.std.specs.Cmp.{IsTotalOrder}
 use Rattle.std.specs.Fn.{Mut, Called, ComputesKey}
 use Rattle.std.specs.List.{filter}
 use Rattle.std.specs.List.Sorted.{IsSortedByKey, IsStableByKey}
 use Rattle.std.specs.Ordering.{nat_cmp}
-use Rattle.std.proofs.Common.{ap, sym, ◌∙◌, inl, inr, append-nil}
-use Rattle.std.proofs.lemmas.Bool.Decides.{eqb_tells}
+use Rattle.std.proofs.Common.{ap, sym, ◌∙◌, append-nil}
 use Rattle.std.proofs.lemmas.Cmp.{nat_cmp_total}
 use Rattle.std.proofs.lemmas.Fn.{always_returns_same}
 use Rattle.std.proofs.lemmas.List.{drop_all}
@@ -15,6 +14,7 @@ use Rattle.order_defs.specs.Sorted.{sorted_by}
 use Rattle.order_defs.proofs.SortedLaws.{sorted_law}
 use Rattle.hfs_defs.specs.Forks.{is_of, records_of}
 use Rattle.hfs_defs.specs.declared.forks.OverflowRecord.{OverflowRecord}
+use Rattle.hfs_extents.proofs.ReadLaws.{eqb_apart}
 
 pub by_key_total : {X : Type 0} (key : X → ℕ) → IsTotalOrder (λ (x y : X). nat_cmp (key x) (key y))
 by_key_total key = record {
@@ -40,11 +40,7 @@ pub other_file : (records found list : List OverflowRecord) (file fork_type : �
     → list ≡ sorted_by (λ (overflow : OverflowRecord). overflow.start) found → list ≡ records_of records file fork_type
 unfolding records_of
 other_file records found list file fork_type other is sorted =
-    sorted ∙ ap (sorted_by (λ overflow. overflow.start)) (sym is) ∙ sym (rw (apart (eqb_tells file 3)) refl)
-  where
-    apart : ((file == 3) ≡ true) × (file ≡ 3) ⊎ ((file == 3) ≡ false) × (file ≢ 3) → (file == 3) ≡ false
-    apart (inl same) = absurd (other same.1)
-    apart (inr not_same) = not_same.0
+    sorted ∙ ap (sorted_by (λ overflow. overflow.start)) (sym is) ∙ sym (rw (eqb_apart file 3 other) refl)
 
 -- behind the last record there is none
 pub all_filtered : (records found : List OverflowRecord) (i file fork_type : ℕ) → length records ≤ i → found ++ filter (is_of file fork_type) (drop i records) ≡ found

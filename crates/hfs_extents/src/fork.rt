@@ -1,10 +1,12 @@
 //! A fork: what is wrong with it, its pieces and its slack.
-ghost use Rattle.std.specs.Prelude.{◌≡◌, ◌+◌, ◌^◌, ◌<◌, IfOk, IfErr};
+ghost use Rattle.std.specs.Prelude.{◌≡◌, ◌+◌, ◌^◌, ◌<◌, ◌≤◌, IfOk, IfErr};
 ghost use Rattle.hfs_defs.specs.Forks.{extents_with, found_fork, byte_place};
-ghost use Rattle.hfs_extents.specs.Extents.{AreNear, LiesInImage};
+ghost use Rattle.hfs_defs.specs.Header.{IsSoundHeader};
+ghost use Rattle.hfs_extents.specs.Extents.{AreNear};
 ghost use Rattle.hfs_extents.specs.Found.{found_in, IsForkRefusal};
 ghost use Rattle.piece_defs.specs.Joined.{AreInARow};
 ghost use Rattle.piece_defs.specs.Places.{ArePiecesAt, AreWithin};
+ghost use Rattle.range_defs.specs.declared.TheConstants.{LONGEST_IMAGE};
 ghost use Rattle.rx_store.specs.Answers.{Answers};
 
 use crate::extents::fork_fault;
@@ -45,10 +47,13 @@ pub(crate) fn fork_runs(
     fork: &Fork,
     place: u64,
 ) -> Result<ForkRuns, ReadFault>
-    requires lies { LiesInImage header.now }
+    requires sound { IsSoundHeader header.now }
+    requires ends { header.now.at + header.now.len ≤ LONGEST_IMAGE }
     requires near { place < 2 ^ 62 }
     requires records_near { AreNear records.now }
     ensures found { Answers (found_in result) (found_fork header.now records.now fork.now place) }
+    ensures placed { IfOk result (λ runs. ArePiecesAt (byte_place header.now (extents_with records.now fork.now)) fork.now.logical_size runs.pieces) }
+    ensures covered { IfOk result (λ runs. AreInARow 0 fork.now.logical_size runs.pieces) }
     ensures within { IfOk result (λ runs. AreWithin (header.now.at + header.now.len) runs.pieces) }
     ensures refusals { IfErr result (IsForkRefusal place) }
 {

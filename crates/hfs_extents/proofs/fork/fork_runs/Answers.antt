@@ -1,5 +1,5 @@
 use Rattle.std.proofs.Common.{sym, ◌∙◌}
-use Rattle.hfs_extents.proofs.FoundLaws.{fault_answers, fault_refuses, ends_inside, few_bytes, found_is}
+use Rattle.hfs_extents.proofs.FoundLaws.{fault_answers, fault_refuses, ends_inside, few_bytes, found_is, found_placed, found_covered, sound_lies}
 use Rattle.hfs_extents.proofs.fork.fork_runs.Goals as goal
 
 pub returns-in-Some-clause-found : goal.returns-in-Some-clause-found
@@ -28,3 +28,20 @@ pub returns-clause-found : goal.returns-clause-found
 returns-clause-found c =
     found_is c.args.header.now c.args.records.now c.args.fork.now c.args.place c.as_slice-extents.result.now c.in_ok-pieces_of.field-0 c.in_ok-slack_of.field-0 (sym c.in_default.ensures.value)
     (c.as_slice-extents.ensures.value ∙ c.in_ok-list.ensures) c.in_ok-pieces_of.ensures.value c.in_ok-slack_of.ensures
+
+pub returns-clause-placed : goal.returns-clause-placed
+returns-clause-placed c =
+    found_placed c.args.header.now c.args.records.now c.args.fork.now c.args.place c.as_slice-extents.result.now c.in_ok-pieces_of.field-0 c.requires.sound c.in_default.ensures.value
+    (c.as_slice-extents.ensures.value ∙ c.in_ok-list.ensures) c.in_ok-pieces_of.ensures.value
+
+pub pieces_of-requires-clause-lies : goal.pieces_of-requires-clause-lies
+pieces_of-requires-clause-lies c = sound_lies c.args.header.now c.requires.sound c.requires.ends
+
+pub slack_of-requires-clause-lies : goal.slack_of-requires-clause-lies
+slack_of-requires-clause-lies c = sound_lies c.args.header.now c.requires.sound c.requires.ends
+
+pub returns-clause-covered : goal.returns-clause-covered
+returns-clause-covered c =
+    found_covered c.args.header.now c.args.records.now c.args.fork.now c.in_ok-pieces_of.field-0
+    (found_placed c.args.header.now c.args.records.now c.args.fork.now c.args.place c.as_slice-extents.result.now c.in_ok-pieces_of.field-0 c.requires.sound c.in_default.ensures.value
+    (c.as_slice-extents.ensures.value ∙ c.in_ok-list.ensures) c.in_ok-pieces_of.ensures.value)
