@@ -7,3 +7,4 @@ pub mod RecordLaws
 pub mod SortLaws
 pub mod ReadLaws
 pub mod NearLaws
+pub mod IndexLaws

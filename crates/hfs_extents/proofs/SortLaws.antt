@@ -1,15 +1,15 @@
 -- Overflow records that are sorted by their first block.
-use Rattle.std.specs.Prelude.{◌≡◌, ℕ, ◌≤◌, List, ◌++◌, length, drop, refl}
+use Rattle.std.specs.Prelude.{◌≡◌, ℕ, List, [], refl}
 use Rattle.std.specs.Borrow.{Bor}
 use Rattle.std.specs.Cmp.{IsTotalOrder}
 use Rattle.std.specs.Fn.{Mut, Called, ComputesKey}
 use Rattle.std.specs.List.{filter}
 use Rattle.std.specs.List.Sorted.{IsSortedByKey, IsStableByKey}
 use Rattle.std.specs.Ordering.{nat_cmp}
-use Rattle.std.proofs.Common.{ap, sym, ◌∙◌, append-nil}
+use Rattle.std.proofs.Common.{ap, sym, ◌∙◌}
+use Rattle.std.proofs.lemmas.Bool.Decides.{Decides-eqb}
 use Rattle.std.proofs.lemmas.Cmp.{nat_cmp_total}
 use Rattle.std.proofs.lemmas.Fn.{always_returns_same}
-use Rattle.std.proofs.lemmas.List.{drop_all}
 use Rattle.order_defs.specs.Sorted.{sorted_by}
 use Rattle.order_defs.proofs.SortedLaws.{sorted_law}
 use Rattle.hfs_defs.specs.Forks.{is_of, records_of}
@@ -42,6 +42,7 @@ unfolding records_of
 other_file records found list file fork_type other is sorted =
     sorted ∙ ap (sorted_by (λ overflow. overflow.start)) (sym is) ∙ sym (rw (eqb_apart file 3 other) refl)
 
--- behind the last record there is none
-pub all_filtered : (records found : List OverflowRecord) (i file fork_type : ℕ) → length records ≤ i → found ++ filter (is_of file fork_type) (drop i records) ≡ found
-all_filtered records found i file fork_type past = ap (λ rest. found ++ filter (is_of file fork_type) rest) (drop_all i records past) ∙ append-nil found
+-- the extents file's own fork has none
+pub own_file : (records : List OverflowRecord) (file fork_type : ℕ) → file ≡ 3 → [] ≡ records_of records file fork_type
+unfolding records_of
+own_file records file fork_type same = sym (rw ((Decides-eqb file 3).1 same) refl)

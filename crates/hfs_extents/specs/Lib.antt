@@ -1,3 +1,4 @@
 pub mod Extents
 pub mod Found
 pub mod Overflow
+pub mod Index

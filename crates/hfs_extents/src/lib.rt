@@ -13,6 +13,7 @@
 
 mod extents;
 mod fork;
+mod index;
 mod overflow;
 mod pieces;
 mod records;

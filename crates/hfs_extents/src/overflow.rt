@@ -16,7 +16,8 @@ ghost use Rattle.rx_store.specs.ReadFaults.{IsReadCounted};
 
 use crate::extents::blocks_in;
 use crate::fork::{ForkRuns, fork_runs};
-use crate::records::{read_records, records_of};
+use crate::index::{Entry, index_of, records_of};
+use crate::records::read_records;
 use hfs_btree::Leaves;
 use hfs_defs::forks::{Fork, OverflowRecord};
 use hfs_defs::header::Header;
@@ -26,22 +27,23 @@ use rx_store::{Bound, ReadFault, Store, What};
 use std::alloc::Global;
 use std::marker::Model;
 
-/// The overflow records of a volume, in the order of the leaf records.
+/// The overflow records of a volume, in the order of the leaf records, and their entries by file.
 #[derive(Debug, Drop)]
 pub struct Overflow {
     records: Items<OverflowRecord>,
+    entries: Vec<Entry>,
 }
 
 impl Model for Overflow {
     ghost use Rattle.std.specs.Prelude.{List};
     ghost use Rattle.hfs_defs.specs.declared.forks.OverflowRecord.{OverflowRecord};
-    ghost use Rattle.hfs_extents.specs.Extents.{AreNear};
+    ghost use Rattle.hfs_extents.specs.Index.{IsKept};
 
     ghost Value = { List OverflowRecord };
 
     ghost view = { λ o. o.records };
 
-    ghost invariant = { λ o. AreNear o.records };
+    ghost invariant = { λ o. IsKept o.records o.entries.items };
 }
 
 /// The pieces of the extents file, which has its eight extents alone.
@@ -88,9 +90,9 @@ impl Overflow {
             header.extents.logical_size,
             header.at + 1216,
         )?;
-        Ok(Overflow {
-            records: read_records(alloc, store, leaves)?,
-        })
+        let records = read_records(alloc, store, leaves)?;
+        let entries = index_of(alloc, records.items())?;
+        Ok(Overflow { records, entries })
     }
 }
 
@@ -113,6 +115,12 @@ pub fn fork_pieces(
     ensures within { IfOk result (λ runs. AreWithin (header.now.at + header.now.len) runs.pieces) }
     ensures refusals { IfErr result (IsForkRefusal place) }
 {
-    let records = records_of(alloc, overflow.records.items(), file, fork_type)?;
+    let records = records_of(
+        alloc,
+        overflow.records.items(),
+        overflow.entries.as_slice(),
+        file,
+        fork_type,
+    )?;
     fork_runs(alloc, header, &records, fork, place)
 }

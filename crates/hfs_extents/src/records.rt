@@ -4,7 +4,6 @@ ghost use Rattle.disk_defs.specs.Disk.{size_of, told_image};
 ghost use Rattle.disk_defs.specs.declared.Area.TheVariants.{Image};
 ghost use Rattle.hfs_btree.specs.Cursor.{rest_of};
 ghost use Rattle.hfs_btree.specs.Lent.{leaf};
-ghost use Rattle.hfs_defs.specs.Forks.{records_of as records_of_by};
 ghost use Rattle.hfs_defs.specs.Overflow.{is_overflow_record as is_overflow_record_by, checked_overflow, overflow_records};
 ghost use Rattle.hfs_extents.specs.Extents.{AreNear};
 ghost use Rattle.hfs_extents.specs.Overflow.{IsNear, IsRecordRefusal};
@@ -20,7 +19,7 @@ use hfs_defs::forks::{Extent, OverflowRecord};
 use range_defs::LONGEST_IMAGE;
 use rx_ranges::Items;
 use rx_store::{ReadFault, Sort, Store};
-use std::alloc::{AllocError, Global};
+use std::alloc::Global;
 
 /// Whether a leaf record has a key of ten bytes and a body of eight extents.
 #[tactic(auto, unfolding(hfs_defs::specs::Overflow::is_overflow_record))]
@@ -81,27 +80,4 @@ pub(crate) fn read_records<S: Store>(
         records.push(overflow_record(lent)?)?;
     }
     Ok(Items::from_vec(records))
-}
-
-/// The overflow records of a fork, by their first block, equal ones in the order of the leaf records.
-#[tactic(auto, unfolding(hfs_defs::specs::Forks::records_of))]
-pub(crate) fn records_of(
-    alloc: Global,
-    records: &[OverflowRecord],
-    file: u32,
-    fork_type: u8,
-) -> Result<Vec<OverflowRecord>, AllocError>
-    ensures { IfOk result (λ found. found.items ≡ records_of_by records.now file fork_type) }
-{
-    let mut found = Vec::new(alloc);
-    if file == 3 {
-        return Ok(found);
-    }
-    for record in records {
-        if record.file == file && record.fork_type == fork_type {
-            found.push(*record)?;
-        }
-    }
-    found.sort_by_key(|overflow| overflow.start)?;
-    Ok(found)
 }
