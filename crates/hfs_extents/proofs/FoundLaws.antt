@@ -20,13 +20,16 @@ use Rattle.rx_store.specs.Answers.{Answers}
 use Rattle.rx_store.specs.ReadFaults.{fault_of}
 use Rattle.rx_store.specs.declared.read_fault.ReadFault.{ReadFault}
 use Rattle.hfs_defs.specs.Forks.{blocks_in, passes, first_passing, written_from, written_extents, is_whole, follow_on, first_damage, fork_fault, extents_with, byte_place, pieces_of, slack_of, FoundFork, found_or, found_fork}
-use Rattle.hfs_defs.specs.ForkDamage.{extents_in}
+use Rattle.hfs_defs.specs.Damage.{IsDamage}
+use Rattle.hfs_defs.specs.ForkDamage.{extents_in, IsFalseInFork}
+use Rattle.hfs_defs.proofs.ForkDamage.{fork_damage_law}
+use Rattle.fault_defs.specs.declared.Sort.{Sort}
 use Rattle.hfs_defs.specs.declared.forks.Extent.{Extent}
 use Rattle.hfs_defs.specs.declared.forks.Fork.{Fork}
 use Rattle.hfs_defs.specs.declared.forks.OverflowRecord.{OverflowRecord}
 use Rattle.hfs_defs.specs.declared.header.Header.{Header}
 use Rattle.hfs_extents.specs.Extents.{EndsIn, LiesInImage}
-use Rattle.hfs_extents.specs.Found.{IsForkRefusal}
+use Rattle.hfs_extents.specs.Found.{IsForkRefusal, TellsFork}
 use Rattle.hfs_extents.proofs.ExtentLaws.{written_in}
 
 -- ---- a fork that is refused
@@ -59,6 +62,23 @@ fault_refuses header records fork place refusal fault is same =
     either (Some at) whole is = let P : Refusal → Type 0 = λ found. IsForkRefusal place (fault_of found) in subst P (sym (one refusal (Damaged ForkExtent at) is)) (inl refl)
     either None true is = absurd cc
     either None false is = let P : Refusal → Type 0 = λ found. IsForkRefusal place (fault_of found) in subst P (sym (one refusal (Damaged ForkSum place) is)) (inr (refl, refl))
+
+-- what refuses a fork is a clause of it that is false at that place
+pub fault_tells : (header : Header) (records : List OverflowRecord) (fork : Fork) (place : ℕ) (refusal : Refusal) (fault : ReadFault) → Some refusal ≡ fork_fault header records fork place → fault ≡ fault_of refusal
+    → TellsFork header records fork place (Err fault)
+fault_tells header records fork place refusal fault is same =
+    let P : ReadFault → Type 0 = λ answer. TellsFork header records fork place (Err answer) in
+    subst P (sym same) (either refusal ((fork_damage_law header records fork place).stops refusal (sym is)))
+  where
+    either : (refusal : Refusal) → IsDamage (IsFalseInFork header records fork place) refusal → TellsFork header records fork place (Err (fault_of refusal))
+    either (Damaged sort at) broken = broken
+    either NotThis broken = absurd broken
+    either (Unsupported what at) broken = absurd broken
+    either (Limit bound number) broken = absurd broken
+
+-- and no clause of another is
+pub found_tells : (header : Header) (records : List OverflowRecord) (fork : Fork) (place : ℕ) (sort : Sort) (at : ℕ) → None ≡ fork_fault header records fork place → IsFalseInFork header records fork place sort at → ⊥
+found_tells header records fork place sort at none = (fork_damage_law header records fork place).passes_all sort at (sym none)
 
 -- ---- the extents of a fork without a fault
 

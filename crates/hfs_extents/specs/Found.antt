@@ -1,6 +1,11 @@
 -- What is found of a fork, and why a fork is refused.
-use Rattle.std.specs.Prelude.{◌≡◌, ◌⊎◌, ℕ, Result, Ok, Err}
+use Rattle.std.specs.Prelude.{◌≡◌, ◌⊎◌, ℕ, Result, Ok, Err, List}
+use Rattle.hfs_defs.specs.ForkDamage.{IsFalseInFork}
 use Rattle.hfs_defs.specs.Forks.{FoundFork}
+use Rattle.hfs_defs.specs.declared.forks.Fork.{Fork}
+use Rattle.hfs_defs.specs.declared.forks.OverflowRecord.{OverflowRecord}
+use Rattle.hfs_defs.specs.declared.header.Header.{Header}
+use Rattle.fault_defs.specs.declared.Sort.{Sort}
 use Rattle.fault_defs.specs.declared.Sort.TheVariants.{ForkExtent, ForkSum}
 use Rattle.rx_store.specs.declared.read_fault.ReadFault.{ReadFault}
 use Rattle.rx_store.specs.declared.read_fault.ReadFault.TheVariants.{Device, NoMemory, NotThis, Damaged, Unsupported, Limit}
@@ -19,3 +24,14 @@ IsForkRefusal place NotThis = ⊥
 IsForkRefusal place (Damaged sort at) = (sort ≡ ForkExtent) ⊎ ((sort ≡ ForkSum) × (at ≡ place))
 IsForkRefusal place (Unsupported what at) = ⊥
 IsForkRefusal place (Limit bound number) = ⊥
+
+-- what an answer says of a fork: no clause of one that is found is false, and what is damaged has a clause that is false at
+-- that place
+abbrev pub TellsFork : Header → List OverflowRecord → Fork → ℕ → Result ForkRuns ReadFault → Type 0
+TellsFork header records fork place (Ok runs) = (sort : Sort) (at : ℕ) → IsFalseInFork header records fork place sort at → ⊥
+TellsFork header records fork place (Err Device) = ⊥
+TellsFork header records fork place (Err NoMemory) = Unit {0}
+TellsFork header records fork place (Err NotThis) = ⊥
+TellsFork header records fork place (Err (Damaged sort at)) = IsFalseInFork header records fork place sort at
+TellsFork header records fork place (Err (Unsupported what at)) = ⊥
+TellsFork header records fork place (Err (Limit bound number)) = ⊥

@@ -3,7 +3,7 @@ ghost use Rattle.std.specs.Prelude.{◌≡◌, ◌+◌, ◌^◌, ◌<◌, ◌≤
 ghost use Rattle.hfs_defs.specs.Forks.{extents_with, found_fork, byte_place};
 ghost use Rattle.hfs_defs.specs.Header.{IsSoundHeader};
 ghost use Rattle.hfs_extents.specs.Extents.{AreNear};
-ghost use Rattle.hfs_extents.specs.Found.{found_in, IsForkRefusal};
+ghost use Rattle.hfs_extents.specs.Found.{found_in, IsForkRefusal, TellsFork};
 ghost use Rattle.piece_defs.specs.Joined.{AreInARow};
 ghost use Rattle.piece_defs.specs.Places.{ArePiecesAt, AreWithin};
 ghost use Rattle.range_defs.specs.declared.TheConstants.{LONGEST_IMAGE};
@@ -52,6 +52,7 @@ pub(crate) fn fork_runs(
     requires near { place < 2 ^ 62 }
     requires records_near { AreNear records.now }
     ensures found { Answers (found_in result) (found_fork header.now records.now fork.now place) }
+    ensures tells { TellsFork header.now records.now fork.now place result }
     ensures placed { IfOk result (λ runs. ArePiecesAt (byte_place header.now (extents_with records.now fork.now)) fork.now.logical_size runs.pieces) }
     ensures covered { IfOk result (λ runs. AreInARow 0 fork.now.logical_size runs.pieces) }
     ensures within { IfOk result (λ runs. AreWithin (header.now.at + header.now.len) runs.pieces) }

@@ -1,5 +1,5 @@
 use Rattle.std.proofs.Common.{sym, ◌∙◌}
-use Rattle.hfs_extents.proofs.FoundLaws.{fault_answers, fault_refuses, ends_inside, few_bytes, found_is, found_placed, found_covered, sound_lies}
+use Rattle.hfs_extents.proofs.FoundLaws.{fault_answers, fault_refuses, fault_tells, found_tells, ends_inside, few_bytes, found_is, found_placed, found_covered, sound_lies}
 use Rattle.hfs_extents.proofs.fork.fork_runs.Goals as goal
 
 pub returns-in-Some-clause-found : goal.returns-in-Some-clause-found
@@ -45,3 +45,9 @@ returns-clause-covered c =
     found_covered c.args.header.now c.args.records.now c.args.fork.now c.in_ok-pieces_of.field-0
     (found_placed c.args.header.now c.args.records.now c.args.fork.now c.args.place c.as_slice-extents.result.now c.in_ok-pieces_of.field-0 c.requires.sound c.in_default.ensures.value
     (c.as_slice-extents.ensures.value ∙ c.in_ok-list.ensures) c.in_ok-pieces_of.ensures.value)
+
+pub returns-in-Some-clause-tells : goal.returns-in-Some-clause-tells
+returns-in-Some-clause-tells c = fault_tells c.args.header.now c.args.records.now c.args.fork.now c.args.place c.in-Some.refusal c.from.result c.in-Some.ensures.value c.from.ensures
+
+pub returns-clause-tells : goal.returns-clause-tells
+returns-clause-tells c = λ sort at. found_tells c.args.header.now c.args.records.now c.args.fork.now c.args.place sort at c.in_default.ensures.value
