@@ -1,5 +1,5 @@
 -- The entries of a file lead to its overflow records, in the order of the leaf records.
-use Rattle.std.specs.Prelude.{◌≡◌, ◌≢◌, ℕ, zero, suc, ◌+◌, ◌-◌, ◌<◌, ◌≤◌, Bool, true, false, not, ◌&&◌, ◌==◌, nat_lt, nat_le, cond, List, [], ◌∷◌, ◌++◌, length, take, drop, get_or, refl}
+use Rattle.std.specs.Prelude.{◌≡◌, ℕ, zero, suc, ◌+◌, ◌-◌, ◌<◌, ◌≤◌, Bool, true, false, not, ◌&&◌, ◌==◌, nat_lt, nat_le, cond, List, [], ◌∷◌, ◌++◌, length, take, drop, get_or, refl}
 use Rattle.std.specs.List.{All, AllWithin, filter, flat_map}
 use Rattle.std.specs.List.Sorted.{IsNonDecreasingBy, IsPartitionPoint}
 use Rattle.std.specs.Ordering.{nat_cmp, is_lt}
@@ -7,7 +7,7 @@ use Rattle.std.proofs.Common.{ap, sym, ◌∙◌, subst, arith, append_assoc, ap
 use Rattle.std.proofs.lemmas.Bool.Decides.{Decides-eqb, nat_tests}
 use Rattle.std.proofs.lemmas.Bool.{ltb-true, ltb-false, leb-true, leb-false}
 use Rattle.std.proofs.lemmas.List.{drop-drop, drop_all, drop_more, at_drop_more, take_all, length-drop}
-use Rattle.std.proofs.lemmas.List.Elements.{All-nil, All-cons, All-filter, filter_agree, filter-append}
+use Rattle.std.proofs.lemmas.List.Elements.{All-nil, All-cons, All-filter, filter_agree}
 use Rattle.std.proofs.lemmas.List.Sorted.{All-permutation, IsNonDecreasingBy-from_sort}
 use Rattle.order_defs.specs.Sorted.{sorted_by}
 use Rattle.order_defs.proofs.SortedLaws.{sorted_law, sorted_moves}

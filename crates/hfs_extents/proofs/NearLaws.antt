@@ -1,5 +1,5 @@
 -- The leaf records of a tree file whose pieces end by a byte of the image begin by it, and so do overflow records of one fork.
-use Rattle.std.specs.Prelude.{◌≡◌, ℕ, zero, suc, ◌+◌, ◌-◌, ◌*◌, ◌<◌, ◌≤◌, Bool, true, false, ◌==◌, nat_lt, if◌then◌else◌, Option, Some, None, IfSome, unwrap_or, Result, Ok, List, [], ◌∷◌, ◌++◌, length, refl}
+use Rattle.std.specs.Prelude.{◌≡◌, ℕ, zero, suc, ◌+◌, ◌-◌, ◌*◌, ◌<◌, ◌≤◌, Bool, true, false, ◌==◌, nat_lt, if◌then◌else◌, Option, Some, None, IfSome, unwrap_or, Result, Ok, List, [], ◌∷◌, length, refl}
 use Rattle.std.specs.List.{All, filter}
 use Rattle.std.proofs.Common.{sym, subst, arith}
 use Rattle.std.proofs.lemmas.Bool.{ltb-true}

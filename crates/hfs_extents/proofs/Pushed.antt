@@ -1,11 +1,11 @@
 -- One more piece behind others.
-use Rattle.std.specs.Prelude.{◌≡◌, ℕ, zero, suc, ◌+◌, ◌-◌, ◌<◌, Bool, true, false, nat_lt, if◌then◌else◌, List, [], ◌∷◌, ◌++◌, length, get_or, set, refl}
+use Rattle.std.specs.Prelude.{◌≡◌, ℕ, zero, suc, ◌-◌, ◌<◌, true, false, List, [], ◌∷◌, ◌++◌, length, get_or, set, refl}
 use Rattle.std.proofs.Common.{ap, sym, ◌∙◌, arith}
 use Rattle.std.proofs.lemmas.Bool.{lt-ltb}
 use Rattle.std.proofs.lemmas.List.{get_or_default}
 use Rattle.rx_ranges.specs.declared.pieces.Piece.{Piece}
 use Rattle.piece_defs.specs.Covering.{is_contiguous}
-use Rattle.piece_defs.specs.Joined.{grown, joined_onto}
+use Rattle.piece_defs.specs.Joined.{grown}
 use Rattle.piece_defs.specs.Put.{put}
 use Rattle.piece_defs.proofs.Joined.{joined_onto_grows, joined_onto_stands}
 use Rattle.hfs_extents.specs.Extents.{put_some}

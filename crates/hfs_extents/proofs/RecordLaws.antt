@@ -1,11 +1,11 @@
 -- The overflow records that leaf records are, one leaf record on.
-use Rattle.std.specs.Prelude.{◌≡◌, ℕ, ◌+◌, ◌≤◌, Option, Some, None, IfSome, IsErr, IsErrAnd, Result, Ok, Err, List, [], ◌∷◌, ◌++◌, refl}
+use Rattle.std.specs.Prelude.{◌≡◌, ℕ, Option, Some, None, IfSome, IsErr, IsErrAnd, Result, Ok, Err, List, [], ◌∷◌, ◌++◌, refl}
 use Rattle.std.specs.List.{All}
 use Rattle.std.proofs.Common.{ap, sym, ◌∙◌, subst, append_assoc}
 use Rattle.std.proofs.lemmas.Bool.{false≢true}
 use Rattle.std.proofs.lemmas.List.Elements.{All-head, All-tail}
 use Rattle.image_defs.specs.Runs.{in_front_of, each_result}
-use Rattle.hfs_defs.specs.Leaves.{Leaf, LeafList, ended, stopped, followed_by}
+use Rattle.hfs_defs.specs.Leaves.{Leaf, LeafList, followed_by}
 use Rattle.hfs_defs.specs.Overflow.{checked_overflow, then_stop, overflow_records}
 use Rattle.fault_defs.specs.declared.Refusal.{Refusal}
 use Rattle.fault_defs.specs.declared.Refusal.TheVariants.{Damaged}

@@ -1,7 +1,7 @@
 -- A list of ranges that has the bytes of others, and is the canonical one, is the longest ranges of them.
-use Rattle.std.specs.Prelude.{◌≡◌, ℕ, ◌+◌, Result, Ok, Err, List, IfOk}
+use Rattle.std.specs.Prelude.{◌≡◌, ℕ, Result, Ok, Err, List, IfOk}
 use Rattle.std.specs.List.{All}
-use Rattle.std.proofs.Common.{ap, sym, ◌∙◌}
+use Rattle.std.proofs.Common.{ap, ◌∙◌}
 use Rattle.range_defs.specs.declared.Range.{Range}
 use Rattle.range_defs.specs.Places.{covers, longest_ranges, IsRangeList}
 use Rattle.range_defs.proofs.RangeLaws.{covers-past, ends_where_covered, same_as_longest_ranges}

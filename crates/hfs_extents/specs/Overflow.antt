@@ -1,6 +1,6 @@
 -- The overflow records of a volume, as they are read.
-use Rattle.std.specs.Prelude.{◌≡◌, ◌⊎◌, ℕ, ◌+◌, ◌<◌, ◌≤◌, nat_le, All, Result, Ok, Err, List}
-use Rattle.image_defs.specs.Ask.{Ask, result_of, check, ◌>>◌, ◌>>=◌}
+use Rattle.std.specs.Prelude.{◌≡◌, ◌⊎◌, ℕ, ◌+◌, ◌<◌, ◌≤◌, nat_le, Result, Ok, Err, List}
+use Rattle.image_defs.specs.Ask.{Ask, result_of, check, ◌>>◌}
 use Rattle.range_defs.specs.declared.TheConstants.{LONGEST_IMAGE}
 use Rattle.piece_defs.specs.Places.{bytes_through}
 use Rattle.hfs_defs.specs.Leaves.{Leaf, leaves_of, tree_file}

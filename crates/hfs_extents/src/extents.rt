@@ -28,7 +28,8 @@ fn passing_in(total: u32, extents: &[Extent], at: u64) -> Option<u64>
 {
     let mut place = at;
     for extent in extents {
-        if extent.count > 0 && u64::from(extent.start) + u64::from(extent.count) > u64::from(total)
+        if extent.count > 0
+            && u64::from(extent.start) + u64::from(extent.count) > u64::from(total)
         {
             return Some(place);
         }

@@ -16,10 +16,7 @@ pub(crate) struct Entry {
 }
 
 /// The entries of overflow records, by their files, those of one file in the order of the records.
-pub(crate) fn index_of(
-    alloc: Global,
-    records: &[OverflowRecord],
-) -> Result<Vec<Entry>, AllocError>
+pub(crate) fn index_of(alloc: Global, records: &[OverflowRecord]) -> Result<Vec<Entry>, AllocError>
     ensures { IfOk result (λ entries. entries.items ≡ entries_by_file records.now) }
 {
     let mut entries = Vec::new(alloc);

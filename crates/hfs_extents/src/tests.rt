@@ -2,6 +2,7 @@
 ghost use Rattle.std.specs.Prelude.{◌≡◌, ◌+◌, ◌≤◌, length, IfOk};
 ghost use Rattle.hfs_defs.specs.Header.{IsSoundHeader};
 
+use crate::fork::ForkRuns;
 use crate::overflow::{Overflow, fork_pieces};
 use hfs_defs::forks::{Extent, Fork};
 use hfs_defs::header::Header;
@@ -12,6 +13,34 @@ use std::alloc::{AllocError, Global};
 use std::test::Fail;
 
 const NONE: Extent = Extent { start: 0, count: 0 };
+
+/// Two blocks, of which the second is behind a volume of 1,000 blocks.
+const LAST: Extent = Extent {
+    start: 999,
+    count: 2,
+};
+
+/// 5,000 bytes in blocks 10 and 20 of 4,096 bytes.
+const PIECES: [Piece; 2] = [
+    Piece {
+        from: 0,
+        len: 4096,
+        kind: PieceKind::Disk,
+        at: 40960,
+    },
+    Piece {
+        from: 4096,
+        len: 904,
+        kind: PieceKind::Disk,
+        at: 81920,
+    },
+];
+
+/// What block 20 has behind them.
+const SLACK: [Range; 1] = [Range {
+    at: 82824,
+    len: 3192,
+}];
 
 /// A fork of these blocks, one extent after the other.
 fn fork(logical_size: u64, total_blocks: u32, extents: [Extent; 8]) -> Fork {
@@ -24,6 +53,15 @@ fn fork(logical_size: u64, total_blocks: u32, extents: [Extent; 8]) -> Fork {
 
 fn one_block(start: u32) -> Extent {
     Extent { start, count: 1 }
+}
+
+/// A fork of two extents.
+fn fork_of_two(logical_size: u64, total_blocks: u32, first: Extent, second: Extent) -> Fork {
+    fork(
+        logical_size,
+        total_blocks,
+        [first, second, NONE, NONE, NONE, NONE, NONE, NONE],
+    )
 }
 
 /// A fork of eight blocks, no two side by side: 20, 22, and so on up to 34.
@@ -159,6 +197,19 @@ fn places(
     Ok(places)
 }
 
+/// What is found of a fork that has no overflow records, whose fork data stand at 77.
+fn found(
+    alloc: Global,
+    header: &Header,
+    overflow: &Overflow,
+    fork: &Fork,
+) -> Result<ForkRuns, ReadFault>
+    requires sound { IsSoundHeader header.now }
+    requires small { header.now.at + header.now.len ≤ 4096000 }
+{
+    fork_pieces(alloc, header, overflow, 99, 0, fork, 77)
+}
+
 #[test]
 fn bytes_stand_in_the_blocks(rt: HostRuntime) -> Result<(), Fail> {
     let small = header(512, 8, 4096);
@@ -166,21 +217,16 @@ fn bytes_stand_in_the_blocks(rt: HostRuntime) -> Result<(), Fail> {
     let overflow = read(rt.alloc(), &image(), &small).expect(&rt, "overflow records");
     let volume = header(4096, 1000, 4_096_000);
     assert_eq!(rt; volume.wrong_field(), None);
-    let extents = [one_block(10), one_block(20), NONE, NONE, NONE, NONE, NONE, NONE];
-    let runs = fork_pieces(rt.alloc(), &volume, &overflow, 99, 0, &fork(5000, 2, extents), 77).expect(
-        &rt, "a fork",
-    );
-    let pieces = [
-        Piece { from: 0, len: 4096, kind: PieceKind::Disk, at: 40960 },
-        Piece { from: 4096, len: 904, kind: PieceKind::Disk, at: 81920 },
-    ];
-    assert_eq!(rt; runs.pieces.items(), pieces.as_slice());
-    assert_eq!(rt; runs.slack.items(), [Range { at: 82824, len: 3192 }].as_slice());
-    let more = fork_pieces(rt.alloc(), &volume, &overflow, 99, 0, &fork(5000, 3, extents), 77);
-    assert_eq!(rt; more.err(), Some(ReadFault::Damaged(Sort::ForkSum, 77)));
-    let end = [Extent { start: 999, count: 2 }, NONE, NONE, NONE, NONE, NONE, NONE, NONE];
-    let past = fork_pieces(rt.alloc(), &volume, &overflow, 99, 0, &fork(5000, 2, end), 77);
-    assert_eq!(rt; past.err(), Some(ReadFault::Damaged(Sort::ForkExtent, 93)));
+    let two = fork_of_two(5000, 2, one_block(10), one_block(20));
+    let runs = found(rt.alloc(), &volume, &overflow, &two).expect(&rt, "a fork");
+    assert_eq!(rt; runs.pieces.items(), PIECES.as_slice());
+    assert_eq!(rt; runs.slack.items(), SLACK.as_slice());
+    let more = fork_of_two(5000, 3, one_block(10), one_block(20));
+    let sum = Some(ReadFault::Damaged(Sort::ForkSum, 77));
+    assert_eq!(rt; found(rt.alloc(), &volume, &overflow, &more).err(), sum);
+    let past = fork_of_two(5000, 2, LAST, NONE);
+    let extent = Some(ReadFault::Damaged(Sort::ForkExtent, 93));
+    assert_eq!(rt; found(rt.alloc(), &volume, &overflow, &past).err(), extent);
     Ok(())
 }
 
@@ -192,15 +238,30 @@ fn overflow_records_go_on(rt: HostRuntime) -> Result<(), Fail> {
     let volume = header(512, 100, 51200);
     assert_eq!(rt; volume.wrong_field(), None);
     let ten = places(rt.alloc(), &volume, &overflow, 40, 0, 10).expect(&rt, "ten extents");
-    assert_eq!(rt; ten.as_slice(), [20, 22, 24, 26, 28, 30, 32, 34, 36, 38].as_slice());
+    assert_eq!(rt;
+        ten.as_slice(),
+        [20, 22, 24, 26, 28, 30, 32, 34, 36, 38].as_slice()
+    );
     let sorted = places(rt.alloc(), &volume, &overflow, 41, 0, 10).expect(&rt, "out of order");
-    assert_eq!(rt; sorted.as_slice(), [20, 22, 24, 26, 28, 30, 32, 34, 60, 50].as_slice());
+    assert_eq!(rt;
+        sorted.as_slice(),
+        [20, 22, 24, 26, 28, 30, 32, 34, 60, 50].as_slice()
+    );
     let level = places(rt.alloc(), &volume, &overflow, 42, 0, 9).expect(&rt, "an empty one first");
-    assert_eq!(rt; level.as_slice(), [20, 22, 24, 26, 28, 30, 32, 34, 50].as_slice());
+    assert_eq!(rt;
+        level.as_slice(),
+        [20, 22, 24, 26, 28, 30, 32, 34, 50].as_slice()
+    );
     let sum = Some(ReadFault::Damaged(Sort::ForkSum, 77));
     assert_eq!(rt; places(rt.alloc(), &volume, &overflow, 43, 0, 9).err(), sum);
-    assert_eq!(rt; places(rt.alloc(), &volume, &overflow, 44, 0, 10).err(), sum);
-    assert_eq!(rt; places(rt.alloc(), &volume, &overflow, 40, 255, 10).err(), sum);
+    assert_eq!(rt;
+        places(rt.alloc(), &volume, &overflow, 44, 0, 10).err(),
+        sum
+    );
+    assert_eq!(rt;
+        places(rt.alloc(), &volume, &overflow, 40, 255, 10).err(),
+        sum
+    );
     assert_eq!(rt; places(rt.alloc(), &volume, &overflow, 3, 0, 9).err(), sum);
     let own = places(rt.alloc(), &volume, &overflow, 3, 0, 8).expect(&rt, "its eight extents");
     assert_eq!(rt; own.len(), 8);
@@ -212,14 +273,17 @@ fn blocks_without_bytes_are_slack(rt: HostRuntime) -> Result<(), Fail> {
     let small = header(512, 8, 4096);
     assert_eq!(rt; small.wrong_field(), None);
     let overflow = read(rt.alloc(), &image(), &small).expect(&rt, "overflow records");
-    let blocks = [one_block(1), one_block(2), NONE, NONE, NONE, NONE, NONE, NONE];
-    let runs = fork_pieces(rt.alloc(), &small, &overflow, 99, 0, &fork(0, 2, blocks), 77).expect(
-        &rt, "a fork",
-    );
+    let blocks = fork_of_two(0, 2, one_block(1), one_block(2));
+    let runs = found(rt.alloc(), &small, &overflow, &blocks).expect(&rt, "a fork");
     assert_eq!(rt; runs.pieces.items().len(), 0);
-    assert_eq!(rt; runs.slack.items(), [Range { at: 512, len: 1024 }].as_slice());
-    let none = fork_pieces(rt.alloc(), &small, &overflow, 99, 0, &fork(1, 0, [NONE; 8]), 77);
-    assert_eq!(rt; none.err(), Some(ReadFault::Damaged(Sort::ForkSum, 77)));
+    assert_eq!(rt; runs.slack.items().len(), 1);
+    assert_eq!(rt;
+        (runs.slack.items()[0].at, runs.slack.items()[0].len),
+        (512, 1024)
+    );
+    let none = fork_of_two(1, 0, NONE, NONE);
+    let sum = Some(ReadFault::Damaged(Sort::ForkSum, 77));
+    assert_eq!(rt; found(rt.alloc(), &small, &overflow, &none).err(), sum);
     Ok(())
 }
 
@@ -230,11 +294,17 @@ fn a_record_of_another_form_is_damage(rt: HostRuntime) -> Result<(), Fail> {
     let mut changed = image();
     changed[3391] = 9;
     let read_changed = read(rt.alloc(), &changed, &small);
-    assert_eq!(rt; read_changed.err(), Some(ReadFault::Damaged(Sort::ExtentsRecord, 3390)));
+    assert_eq!(rt;
+        read_changed.err(),
+        Some(ReadFault::Damaged(Sort::ExtentsRecord, 3390))
+    );
     small.extents.total_blocks = 5;
     assert_eq!(rt; small.wrong_field(), None);
     let more = read(rt.alloc(), &image(), &small);
-    assert_eq!(rt; more.err(), Some(ReadFault::Unsupported(What::ExtentsFork, 1216)));
+    assert_eq!(rt;
+        more.err(),
+        Some(ReadFault::Unsupported(What::ExtentsFork, 1216))
+    );
     Ok(())
 }
 

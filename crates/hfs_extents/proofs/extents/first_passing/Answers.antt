@@ -1,5 +1,5 @@
 use Rattle.std.specs.Prelude.{◌+◌}
-use Rattle.std.proofs.Common.{sym, ◌∙◌, drop}
+use Rattle.std.proofs.Common.{sym, ◌∙◌}
 use Rattle.hfs_defs.specs.Forks.{written_from}
 use Rattle.hfs_extents.proofs.ExtentLaws.{written_in, passing-front, passing-behind, passing-found, passing-more}
 use Rattle.hfs_extents.proofs.extents.first_passing.Goals as goal

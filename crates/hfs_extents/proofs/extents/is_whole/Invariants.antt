@@ -1,4 +1,4 @@
-use Rattle.std.proofs.Common.{◌≡◌, ◌+◌, ◌*◌, ◌<◌, ◌^◌, drop}
+use Rattle.std.proofs.Common.{◌≡◌, ◌+◌, ◌<◌, ◌^◌, drop}
 use Rattle.hfs_defs.specs.Forks.{blocks_in, follow_on, extents_with}
 use Rattle.hfs_defs.specs.ForkDamage.{extents_in}
 use Rattle.hfs_extents.proofs.extents.is_whole.Given as goal

@@ -1,4 +1,4 @@
-use Rattle.std.proofs.Common.{◌≡◌, ◌+◌, ◌++◌, drop}
+use Rattle.std.proofs.Common.{◌≡◌, ◌++◌, drop}
 use Rattle.hfs_defs.specs.Forks.{extents_with}
 use Rattle.hfs_defs.specs.ForkDamage.{extents_in}
 use Rattle.hfs_extents.proofs.fork.all_extents.Given as goal

@@ -1,5 +1,4 @@
 use Rattle.std.proofs.Common.{rules, arith}
-use Rattle.hfs_extents.specs.Index.{entries_by_file}
 use Rattle.hfs_extents.proofs.SortLaws.{sorted_by_clauses}
 use Rattle.hfs_extents.proofs.IndexLaws.{by_file}
 use Rattle.hfs_extents.proofs.index.index_of.Goals as goal

@@ -1,5 +1,4 @@
-use Rattle.std.proofs.Common.{arith, ◌≤◌, ◌*◌, ◌+◌, ap, ◌≡◌}
-use Rattle.std.proofs.Math.Nat.{mul-le-mul_right}
+use Rattle.std.proofs.Common.{arith}
 use Rattle.hfs_extents.proofs.ExtentLaws.{inside_volume}
 use Rattle.hfs_extents.proofs.pieces.extent_piece.Goals as goal
 

@@ -1,5 +1,4 @@
-use Rattle.std.proofs.Common.{ap, ◌≡◌, ◌*◌, ◌+◌, ◌≤◌, min, refl, arith}
-use Rattle.hfs_defs.specs.Forks.{block_place, content_bytes}
+use Rattle.std.proofs.Common.{ap, refl, arith}
 use Rattle.hfs_extents.proofs.ExtentLaws.{inside_volume}
 use Rattle.hfs_extents.proofs.pieces.extent_rest.Goals as goal
 

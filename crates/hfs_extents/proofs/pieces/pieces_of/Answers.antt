@@ -1,5 +1,4 @@
-use Rattle.std.proofs.Common.{◌≡◌, ◌+◌, drop, ap, subst, sym, ◌∙◌, List, arith, refl}
-use Rattle.std.proofs.lemmas.List.Elements.{All-nil}
+use Rattle.std.proofs.Common.{◌+◌, drop, ap, subst, sym, ◌∙◌, List, arith}
 use Rattle.rx_ranges.specs.declared.pieces.Piece.{Piece}
 use Rattle.piece_defs.specs.Places.{AreWithin}
 use Rattle.hfs_defs.specs.Forks.{pieces_of, pieces_from}

@@ -12,7 +12,7 @@ pub returns : goal.returns
 returns c =
     c.in_ok-push.ensures.items
     ∙ elim c.else-count-gt0.branch [
-      else-count-gt0-via-then-count-gt0+else-is_contiguous w ↦
+      | else-count-gt0-via-then-count-gt0+else-is_contiguous w ↦
           put_some-stands c.args.pieces.now.items c.args.piece w.index.result.now c.len-count.result c.if-piece-eq0.false (omega arith) w.index.ensures (sym w.is_contiguous.ensures ∙ w.if-is_contiguous.false)
-    | else-count-gt0-via-else-count-gt0 w ↦ put_some-first c.args.pieces.now.items c.args.piece c.len-count.result c.if-piece-eq0.false (omega arith) (λ some. omega arith)
+      | else-count-gt0-via-else-count-gt0 w ↦ put_some-first c.args.pieces.now.items c.args.piece c.len-count.result c.if-piece-eq0.false (omega arith) (λ some. omega arith)
     ]

@@ -1,4 +1,4 @@
-use Rattle.std.proofs.Common.{◌≡◌, ◌+◌, ◌++◌, drop, ap, subst, sym, ◌∙◌, List, arith}
+use Rattle.std.proofs.Common.{◌+◌, ◌++◌, drop, ap, subst, sym, ◌∙◌, List, arith}
 use Rattle.std.specs.List.{All}
 use Rattle.range_defs.specs.declared.Range.{Range}
 use Rattle.hfs_defs.specs.Forks.{rests_from}
