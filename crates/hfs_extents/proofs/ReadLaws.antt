@@ -33,7 +33,8 @@ pub far : (header : Header) (image : List ℕ) → LONGEST_IMAGE < header.at + h
 unfolding overflow_within
 far header image past = result_check_false image (nat_le (header.at + header.len) LONGEST_IMAGE) (Limit Image LONGEST_IMAGE) (λ _. volume_overflow header) (lt-leb (header.at + header.len) LONGEST_IMAGE past)
 
-near : (header : Header) (image : List ℕ) → header.at + header.len ≤ LONGEST_IMAGE → result_of image (overflow_within header) ≡ result_of image (volume_overflow header)
+-- of any other it is the volume's
+pub near : (header : Header) (image : List ℕ) → header.at + header.len ≤ LONGEST_IMAGE → result_of image (overflow_within header) ≡ result_of image (volume_overflow header)
 unfolding overflow_within
 near header image ends = result_check_true image (nat_le (header.at + header.len) LONGEST_IMAGE) (Limit Image LONGEST_IMAGE) (λ _. volume_overflow header) (le-leb (header.at + header.len) LONGEST_IMAGE ends)
 

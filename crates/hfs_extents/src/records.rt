@@ -57,6 +57,7 @@ fn overflow_record(lent: LeafRecord<'_>) -> Result<OverflowRecord, ReadFault>
             Extent::from_bytes(bytes, 60),
             Extent::from_bytes(bytes, 68),
         ],
+        // what a store tells stands in front of it; of one that tells nothing that isn't known
         at: at.min(LONGEST_IMAGE),
     })
 }
