@@ -1,6 +1,7 @@
 //! Tests of what no clause says: the calls succeed where memory suffices, on a volume whose extents file was written by hand.
 ghost use Rattle.std.specs.Prelude.{◌≡◌, ◌+◌, ◌≤◌, length, IfOk};
 ghost use Rattle.hfs_defs.specs.Header.{IsSoundHeader};
+ghost use Rattle.disk_defs.specs.Memory.{held_in_memory};
 
 use crate::fork::ForkRuns;
 use crate::overflow::{Overflow, fork_pieces};
@@ -155,7 +156,7 @@ fn image() -> [u8; 4096] {
 }
 
 fn store_of(alloc: Global, bytes: &[u8]) -> Result<MemStore, AllocError>
-    ensures { IfOk result (λ store. store.held.image ≡ bytes.now) }
+    ensures { IfOk result (λ store. (held_in_memory store).image ≡ bytes.now) }
 {
     MemStore::new(
         alloc,
