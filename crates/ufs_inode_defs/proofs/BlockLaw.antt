@@ -1,0 +1,402 @@
+-- The walk over the pointers puts each byte of a stream where it stands.
+use Rattle.std.specs.Prelude.{◌≡◌, ◌⊎◌, ℕ, zero, suc, ◌+◌, ◌-◌, ◌*◌, ◌/◌, ◌%◌, ◌<◌, ◌≤◌, min, ℤ, pos, negsuc, Bool, true, false, nat_le, nat_lt, if◌then◌else◌, Result, Ok, List, [], ◌∷◌, take, drop, length, refl}
+use Rattle.std.specs.Int.{cast_signed, div_ceil}
+use Rattle.std.proofs.Common.{ap, sym, ◌∙◌, subst, arith, ⊎_elim, inl, inr}
+use Rattle.std.proofs.Math.Nat.{mul-le-mul_right}
+use Rattle.std.proofs.lemmas.Bool.{leb-true}
+use Rattle.std.proofs.lemmas.Bool.Decides.{nat_tests}
+use Rattle.std.proofs.lemmas.Grind.{div_ceil_times}
+use Rattle.std.proofs.lemmas.Nat.{div-mul-add, mod-mul-add, div_below, le-div}
+use Rattle.std.proofs.lemmas.List.{drop-drop, drop-take}
+use Rattle.std.proofs.lemmas.List.Elements.{All-nil}
+use Rattle.bytes_defs.specs.Bytes.{part}
+use Rattle.bytes_defs.specs.Numbers.{number_at, signed_at}
+use Rattle.bytes_defs.proofs.NumberLaws.{number_at_part, signed_at_number}
+use Rattle.image_defs.specs.Ask.{Ask, Done, result_of, look, ◌>>=◌}
+use Rattle.image_defs.specs.Through.{through}
+use Rattle.image_defs.proofs.Looks.{bind_gives, check_gives}
+use Rattle.piece_defs.specs.Places.{IsPlaced, ArePiecesAt}
+use Rattle.piece_defs.proofs.Put.{put_law}
+use Rattle.fault_defs.specs.declared.Refusal.{Refusal}
+use Rattle.fault_defs.specs.declared.Refusal.TheVariants.{Damaged, Limit}
+use Rattle.fault_defs.specs.declared.Sort.TheVariants.{BlockPointer}
+use Rattle.fault_defs.specs.declared.Bound.TheVariants.{Runs}
+use Rattle.ufs_inode_defs.specs.Layout.{layout_of, pointer_len}
+use Rattle.ufs_inode_defs.specs.Numbers.{signed_row}
+use Rattle.ufs_inode_defs.specs.Superblock.{block_size}
+use Rattle.ufs_inode_defs.specs.Stream.{Pointer, Stream, span, block_count, allocated_len, pointers_from}
+use Rattle.ufs_inode_defs.specs.Blocks.{Laid, runs_of, most_runs, with_hole, with_block, with_visit, counted_runs, fragment_place, lies_within, led, none_laid, mapped_blocks, stream_blocks}
+use Rattle.ufs_inode_defs.specs.BlockPlace.{pointer_at, mapped_pointer, value_of, block_pointer, led_place, byte_place, AreStreamPieces}
+use Rattle.ufs_inode_defs.specs.declared.superblock.Super.{Super}
+
+-- a block of the content begins in it
+pub block_begins : (size unit block : ℕ) → 0 < unit → block < div_ceil size unit → block * unit < size
+block_begins size unit block some below =
+    let next : suc block * unit ≤ div_ceil size unit * unit = mul-le-mul_right unit below in
+    omega (arith, next, (div_ceil_times size unit some).1)
+
+-- behind the blocks of the content there is nothing of it
+pub blocks_hold : (size unit block : ℕ) → 0 < unit → div_ceil size unit ≤ block → size ≤ block * unit
+blocks_hold size unit block some past =
+    let whole : div_ceil size unit * unit ≤ block * unit = mul-le-mul_right unit past in
+    omega (arith, whole, (div_ceil_times size unit some).0)
+
+-- the pieces of the blocks that were passed are laid
+abbrev pub IsLaid : List ℕ → Super → Stream → Laid → Type 0
+IsLaid image sup stream laid = ArePiecesAt (byte_place image sup stream) (min (laid.block * block_size sup) stream.size) laid.pieces
+
+-- blocks from one on are those that a pointer maps
+abbrev pub AreMapped : ℕ → List ℕ → Super → Stream → ℕ → ℤ → Type 0
+AreMapped level image sup stream first value =
+    (number : ℕ) → number < span sup level → block_pointer image sup stream (first + number) ≡ mapped_pointer level image sup value number
+
+-- a walk has come to a block, or to the end
+abbrev pub HasCome : Super → Stream → ℕ → Laid → Type 0
+HasCome sup stream block laid = (laid.block ≡ block) ⊎ (block_count sup stream.size ≤ laid.block)
+
+-- a walk has passed the blocks in front of one
+pub record HasPassed (image : List ℕ) (sup : Super) (stream : Stream) (block : ℕ) (laid : Laid) : Type 0 where
+  pub placed : IsLaid image sup stream laid
+  pub come : HasCome sup stream block laid
+
+same_value : (a b : Laid) → (let first : Result Laid Refusal = Ok a in let second : Result Laid Refusal = Ok b in first ≡ second) → a ≡ b
+same_value a b same = cc
+
+counted_gives : (image : List ℕ) (laid after : Laid) → result_of image (counted_runs laid) ≡ Ok after → laid ≡ after
+counted_gives image laid after gives = same_value laid after (check_gives image (nat_le (runs_of laid) most_runs) (Limit Runs most_runs) (λ x. Done laid) after gives).1
+
+passed_of : (image : List ℕ) (sup : Super) (stream : Stream) (block : ℕ) (laid after : Laid) → laid ≡ after → HasPassed image sup stream block laid → HasPassed image sup stream block after
+passed_of image sup stream block laid after same passed = let P : Laid → Type 0 = λ l. HasPassed image sup stream block l in subst P same passed
+
+-- ---- one step
+
+-- a hole of some blocks
+hole_laid : (image : List ℕ) (sup : Super) (stream : Stream) (laid : Laid) (blocks : ℕ) → 0 < block_size sup → 0 < blocks → laid.block < block_count sup stream.size → IsLaid image sup stream laid
+    → ((number : ℕ) → number < blocks → block_pointer image sup stream (laid.block + number) ≡ pos 0) → IsLaid image sup stream (with_hole sup stream.size blocks laid)
+unfolding byte_place
+hole_laid image sup stream laid blocks some more below before holes =
+    let unit : ℕ = block_size sup in
+    let begins : laid.block * unit < stream.size = block_begins stream.size unit laid.block some below in
+    let one : 1 * unit ≤ blocks * unit = mul-le-mul_right unit more in
+    let behind : (laid.block + blocks) * unit ≡ laid.block * unit + blocks * unit = omega arith in
+    let P : ℕ → Type 0 = λ end. ArePiecesAt (byte_place image sup stream) end (with_hole sup stream.size blocks laid).pieces in
+    subst P (omega (arith, begins, behind))
+    (put_law (byte_place image sup stream) (min (laid.block * unit) stream.size) laid.pieces _ before (omega (arith, begins)) (omega (arith, begins, one, some))
+    (record {
+      plain = refl;
+      bytes = λ byte from to.
+          let low : laid.block ≤ byte / unit = le-div laid.block byte unit some from in
+          let high : byte / unit < laid.block + blocks = div_below byte unit (laid.block + blocks) some (omega (arith, to, behind)) in
+          let is : laid.block + (byte / unit - laid.block) ≡ byte / unit = omega (arith, low) in
+          ap (λ value. led_place sup value (byte % unit)) (ap (λ block. block_pointer image sup stream block) (sym is) ∙ holes (byte / unit - laid.block) (omega (arith, low, high)));
+    }))
+
+-- a block at a fragment
+block_laid : (image : List ℕ) (sup : Super) (stream : Stream) (laid : Laid) (fragment : ℕ) → 0 < block_size sup → laid.block < block_count sup stream.size → IsLaid image sup stream laid
+    → block_pointer image sup stream laid.block ≡ pos (suc fragment) → IsLaid image sup stream (with_block sup stream.size (fragment_place sup (suc fragment)) laid)
+unfolding byte_place
+block_laid image sup stream laid fragment some below before is =
+    let unit : ℕ = block_size sup in
+    let begins : laid.block * unit < stream.size = block_begins stream.size unit laid.block some below in
+    let behind : (laid.block + 1) * unit ≡ laid.block * unit + unit = omega arith in
+    let P : ℕ → Type 0 = λ end. ArePiecesAt (byte_place image sup stream) end (with_block sup stream.size (fragment_place sup (suc fragment)) laid).pieces in
+    subst P (omega (arith, begins, behind))
+    (put_law (byte_place image sup stream) (min (laid.block * unit) stream.size) laid.pieces _ before (omega (arith, begins)) (omega (arith, begins, some))
+    (record {
+      plain = tt;
+      bytes = λ byte from to.
+          let rest : ℕ = byte - laid.block * unit in
+          let whole : laid.block * unit + rest ≡ byte = omega (arith, from) in
+          let short : rest < unit = omega (arith, to) in
+          let number : byte / unit ≡ laid.block = ap (λ n. n / unit) (sym whole) ∙ div-mul-add laid.block unit rest short in
+          let offset : byte % unit ≡ rest = ap (λ n. n % unit) (sym whole) ∙ mod-mul-add laid.block unit rest short in
+          ap (λ block. led_place sup (block_pointer image sup stream block) (byte % unit)) number
+          ∙ ap (λ value. led_place sup value (byte % unit)) is
+          ∙ ap (λ n. led_place sup (pos (suc fragment)) n) offset;
+    }))
+
+-- a walk stands where it was behind the end, and else it goes on
+past_or : (image : List ℕ) (past : Bool) (laid after : Laid) (more : Ask Refusal Laid) → result_of image (if past then Done laid else more) ≡ Ok after
+    → ((past ≡ true) × (laid ≡ after)) ⊎ ((past ≡ false) × (result_of image more ≡ Ok after))
+past_or image true laid after more gives = inl (refl, same_value laid after gives)
+past_or image false laid after more gives = inr (refl, gives)
+
+-- ---- what a pointer maps, through so many levels
+
+-- a walk over what a pointer of a level maps passes its blocks
+abbrev Passes : ℕ → List ℕ → Super → Stream → Type 0
+Passes level image sup stream =
+    (laid after : Laid) (at : ℕ) (value : ℤ) → IsLaid image sup stream laid → (laid.block < block_count sup stream.size → AreMapped level image sup stream laid.block value)
+    → result_of image (mapped_blocks level sup stream.size laid (record { at = at; value = value })) ≡ Ok after → HasPassed image sup stream (laid.block + span sup level) after
+
+block_passes : (image : List ℕ) (sup : Super) (stream : Stream) (laid after : Laid) (at : ℕ) (value : ℤ) → 0 < block_size sup → laid.block < block_count sup stream.size → IsLaid image sup stream laid
+    → block_pointer image sup stream (laid.block + 0) ≡ value
+    → result_of image (led sup (record { at = at; value = value }) (allocated_len sup stream.size laid.block) (counted_runs (with_hole sup stream.size 1 laid)) (λ place. counted_runs (with_block sup stream.size place laid))) ≡ Ok after
+    → HasPassed image sup stream (laid.block + 1) after
+block_passes image sup stream laid after at (pos zero) some below before is gives =
+    passed_of image sup stream (laid.block + 1) (with_hole sup stream.size 1 laid) after (counted_gives image (with_hole sup stream.size 1 laid) after gives)
+    (record {
+      placed =
+          hole_laid image sup stream laid 1 some (omega arith) below before
+          (λ number first. let zero_th : laid.block + number ≡ laid.block + 0 = omega (arith, first) in ap (λ block. block_pointer image sup stream block) zero_th ∙ is);
+      come = inl refl;
+    })
+block_passes image sup stream laid after at (pos (suc fragment)) some below before is gives =
+    let there = check_gives image (lies_within sup (suc fragment) (allocated_len sup stream.size laid.block)) (Damaged BlockPointer at) (λ x. counted_runs (with_block sup stream.size (fragment_place sup (suc fragment)) laid)) after gives in
+    let here : laid.block ≡ laid.block + 0 = omega arith in
+    passed_of image sup stream (laid.block + 1) (with_block sup stream.size (fragment_place sup (suc fragment)) laid) after (counted_gives image (with_block sup stream.size (fragment_place sup (suc fragment)) laid) after there.1)
+    (record {
+      placed = block_laid image sup stream laid fragment some below before (ap (λ block. block_pointer image sup stream block) here ∙ is);
+      come = inl refl;
+    })
+block_passes image sup stream laid after at (negsuc n) some below before is gives = absurd cc
+
+not_past : (count block : ℕ) → nat_le count block ≡ false → block < count
+not_past count block is = grind (arith, nat_tests)
+
+passes_0 : (image : List ℕ) (sup : Super) (stream : Stream) → 0 < block_size sup → Passes 0 image sup stream
+unfolding mapped_blocks
+passes_0 image sup stream some = λ laid after at value before maps gives.
+    ⊎_elim
+    (λ past. passed_of image sup stream (laid.block + 1) laid after past.1 (record { placed = before; come = inr (leb-true (block_count sup stream.size) laid.block past.0) }))
+    (λ inside.
+    let below : laid.block < block_count sup stream.size = not_past (block_count sup stream.size) laid.block inside.0 in
+    block_passes image sup stream laid after at value some below before (maps below 0 (omega arith)) inside.1)
+    (past_or image (nat_le (block_count sup stream.size) laid.block) laid after _ gives)
+
+-- ---- a block of pointers
+
+-- some bytes hold the pointers of a block from a number on
+abbrev IsRow : List ℕ → Super → ℕ → ℕ → ℕ → List ℕ → Type 0
+IsRow image sup place zero number bytes = Unit {0}
+IsRow image sup place (suc more) number bytes =
+    (signed_at sup.order (layout_of sup.version).pointer bytes 0 ≡ pointer_at image sup place number)
+    × IsRow image sup place more (number + 1) (drop (pointer_len sup.version) bytes)
+
+-- the blocks that a pointer of a block of pointers maps
+child_maps : (level : ℕ) (image : List ℕ) (sup : Super) (stream : Stream) (first fragment number : ℕ) → number < sup.nindir → AreMapped (suc level) image sup stream first (pos (suc fragment))
+    → AreMapped level image sup stream (first + number * span sup level) (pointer_at image sup (fragment_place sup (suc fragment)) number)
+child_maps level image sup stream first fragment number below maps = λ other inside.
+    let width : ℕ = span sup level in
+    let whole : first + number * width + other ≡ first + (number * width + other) = omega arith in
+    let next : suc number * width ≤ sup.nindir * width = mul-le-mul_right width below in
+    let within : number * width + other < sup.nindir * width = omega (arith, next, inside) in
+    ap (λ block. block_pointer image sup stream block) whole
+    ∙ maps (number * width + other) within
+    ∙ ap (λ n. mapped_pointer level image sup (pointer_at image sup (fragment_place sup (suc fragment)) n) ((number * width + other) % width)) (div-mul-add number width other inside)
+    ∙ ap (λ n. mapped_pointer level image sup (pointer_at image sup (fragment_place sup (suc fragment)) number) n) (mod-mul-add number width other inside)
+
+children_pass : (level : ℕ) (image : List ℕ) (sup : Super) (stream : Stream) (first fragment : ℕ) → Passes level image sup stream → AreMapped (suc level) image sup stream first (pos (suc fragment))
+    → (more number at : ℕ) (bytes : List ℕ) (laid after : Laid) → number + more ≡ sup.nindir → IsRow image sup (fragment_place sup (suc fragment)) more number bytes
+    → HasPassed image sup stream (first + number * span sup level) laid
+    → result_of image (through (mapped_blocks level sup stream.size) laid (pointers_from at (pointer_len sup.version) (signed_row sup.order (layout_of sup.version).pointer more bytes))) ≡ Ok after
+    → HasPassed image sup stream (first + sup.nindir * span sup level) after
+children_pass level image sup stream first fragment passes maps zero number at bytes laid after total row before gives =
+    let all : first + number * span sup level ≡ first + sup.nindir * span sup level = ap (λ n. first + n * span sup level) (omega (arith, total)) in
+    let P : ℕ → Type 0 = λ block. HasPassed image sup stream block after in
+    subst P all (passed_of image sup stream (first + number * span sup level) laid after (same_value laid after gives) before)
+children_pass level image sup stream first fragment passes maps (suc more) number at bytes laid after total row before gives =
+    let value : ℤ = signed_at sup.order (layout_of sup.version).pointer bytes 0 in
+    let step = bind_gives image (mapped_blocks level sup stream.size laid (record { at = at; value = value })) _ after gives in
+    let V : ℤ → Type 0 = λ v. AreMapped level image sup stream (first + number * span sup level) v in
+    let here : AreMapped level image sup stream (first + number * span sup level) value = subst V (sym row.0) (child_maps level image sup stream first fragment number (omega (arith, total)) maps) in
+    let B : ℕ → Type 0 = λ block. AreMapped level image sup stream block value in
+    let mapped : laid.block < block_count sup stream.size → AreMapped level image sup stream laid.block value =
+    λ below. ⊎_elim (λ is. subst B (sym is) here) (λ past. absurd (omega (arith, below, past))) before.come in
+    let passed : HasPassed image sup stream (laid.block + span sup level) step.0 = passes laid step.0 at value before.placed mapped step.1 in
+    let next : first + (number + 1) * span sup level ≡ first + number * span sup level + span sup level = omega arith in
+    children_pass level image sup stream first fragment passes maps more (number + 1) (at + pointer_len sup.version) (drop (pointer_len sup.version) bytes) step.0 after (omega (arith, total)) row.1
+    (record {
+      placed = passed.placed;
+      come =
+          ⊎_elim
+          (λ is.
+          ⊎_elim
+          (λ was. inl (is ∙ ap (λ block. block + span sup level) was ∙ sym next))
+          (λ past. inr (omega (arith, past, is)))
+          before.come)
+          (λ past. inr past)
+          passed.come;
+    })
+    step.2
+
+-- what a superblock in which nothing is wrong says of blocks of pointers
+pub record HasPointers (sup : Super) : Type 0 where
+  pub some_bytes : 0 < block_size sup
+  pub some_pointers : 0 < sup.nindir
+  pub whole : sup.nindir * pointer_len sup.version ≤ block_size sup
+
+some_span : (sup : Super) → 0 < sup.nindir → (level : ℕ) → 0 < span sup level
+some_span sup some zero = omega arith
+some_span sup some (suc level) =
+    let one : 1 * span sup level ≤ sup.nindir * span sup level = mul-le-mul_right (span sup level) some in
+    omega (arith, one, some_span sup some level)
+
+tree_goes_on : (level : ℕ) (image : List ℕ) (sup : Super) (stream : Stream) → HasPointers sup → ((place : ℕ) → IsRow image sup place sup.nindir 0 (part image place (block_size sup))) → Passes level image sup stream
+    → (laid after : Laid) (at : ℕ) (value : ℤ) → laid.block < block_count sup stream.size → IsLaid image sup stream laid → AreMapped (suc level) image sup stream laid.block value
+    → result_of image (led sup (record { at = at; value = value }) (block_size sup) (counted_runs (with_hole sup stream.size (span sup (suc level)) laid))
+    (λ place. counted_runs (with_visit laid) >>= (λ visited. look place (block_size sup) >>= (λ bytes. through (mapped_blocks level sup stream.size) visited (pointers_from place (pointer_len sup.version) (signed_row sup.order (layout_of sup.version).pointer sup.nindir bytes)))))) ≡ Ok after
+    → HasPassed image sup stream (laid.block + span sup (suc level)) after
+tree_goes_on level image sup stream has rows passes laid after at (pos zero) below before maps gives =
+    passed_of image sup stream (laid.block + span sup (suc level)) (with_hole sup stream.size (span sup (suc level)) laid) after (counted_gives image (with_hole sup stream.size (span sup (suc level)) laid) after gives)
+    (record { placed = hole_laid image sup stream laid (span sup (suc level)) has.some_bytes (some_span sup has.some_pointers (suc level)) below before maps; come = inl refl })
+tree_goes_on level image sup stream has rows passes laid after at (pos (suc fragment)) below before maps gives =
+    let there = check_gives image (lies_within sup (suc fragment) (block_size sup)) (Damaged BlockPointer at) _ after gives in
+    let visited = bind_gives image (counted_runs (with_visit laid)) _ after there.1 in
+    let first : laid.block ≡ laid.block + 0 * span sup level = omega arith in
+    children_pass level image sup stream laid.block fragment passes maps sup.nindir 0 (fragment_place sup (suc fragment)) (part image (fragment_place sup (suc fragment)) (block_size sup)) visited.0 after (omega arith)
+    (rows (fragment_place sup (suc fragment)))
+    (passed_of image sup stream (laid.block + 0 * span sup level) (with_visit laid) visited.0 (counted_gives image (with_visit laid) visited.0 visited.1) (record { placed = before; come = inl first }))
+    visited.2
+tree_goes_on level image sup stream has rows passes laid after at (negsuc n) below before maps gives = absurd cc
+
+passes_next : (level : ℕ) (image : List ℕ) (sup : Super) (stream : Stream) → HasPointers sup → ((place : ℕ) → IsRow image sup place sup.nindir 0 (part image place (block_size sup))) → Passes level image sup stream
+    → Passes (suc level) image sup stream
+unfolding mapped_blocks
+passes_next level image sup stream has rows passes = λ laid after at value before maps gives.
+    ⊎_elim
+    (λ past. passed_of image sup stream (laid.block + span sup (suc level)) laid after past.1 (record { placed = before; come = inr (leb-true (block_count sup stream.size) laid.block past.0) }))
+    (λ inside.
+    let below : laid.block < block_count sup stream.size = not_past (block_count sup stream.size) laid.block inside.0 in
+    tree_goes_on level image sup stream has rows passes laid after at value below before (maps below) inside.1)
+    (past_or image (nat_le (block_count sup stream.size) laid.block) laid after _ gives)
+
+-- ---- the pointers of a block are those that stand there
+
+dropped_part : (image : List ℕ) (place len more : ℕ) → drop len (part image place (len + more)) ≡ part image (place + len) more
+unfolding part
+dropped_part image place len more = drop-take len more (drop place image) ∙ ap (take more) (drop-drop len place image)
+
+row_from : (image : List ℕ) (sup : Super) (place more number rest : ℕ) → more * pointer_len sup.version ≤ rest
+    → IsRow image sup place more number (part image (place + number * pointer_len sup.version) rest)
+row_from image sup place zero number rest fits = tt
+row_from image sup place (suc more) number rest fits =
+    let len : ℕ = pointer_len sup.version in
+    let at : ℕ = place + number * len in
+    let first : len + more * len ≡ suc more * len = omega arith in
+    let whole : len + (rest - len) ≡ rest = omega (arith, first, fits) in
+    let next : at + len ≡ place + (number + 1) * len = omega arith in
+    let here : at + 0 ≡ at = omega arith in
+    let P : List ℕ → Type 0 = λ list. IsRow image sup place more (number + 1) list in
+    let split : drop len (part image at rest) ≡ part image (place + (number + 1) * len) (rest - len) =
+    ap (λ n. drop len (part image at n)) (sym whole) ∙ dropped_part image at len (rest - len) ∙ ap (λ n. part image n (rest - len)) next in (
+      signed_at_number sup.order (layout_of sup.version).pointer (part image at rest) 0
+      ∙ ap (cast_signed (layout_of sup.version).pointer) (number_at_part sup.order len image at rest 0 (omega (arith, first, fits)) ∙ ap (number_at sup.order len image) here)
+      ∙ sym (signed_at_number sup.order (layout_of sup.version).pointer image at),
+      subst P (sym split) (row_from image sup place more (number + 1) (rest - len) (omega (arith, first, fits))),
+    )
+
+rows_of : (image : List ℕ) (sup : Super) → HasPointers sup → (place : ℕ) → IsRow image sup place sup.nindir 0 (part image place (block_size sup))
+rows_of image sup has place =
+    let none : place + 0 * pointer_len sup.version ≡ place = omega arith in
+    let P : ℕ → Type 0 = λ n. IsRow image sup place sup.nindir 0 (part image n (block_size sup)) in
+    subst P none (row_from image sup place sup.nindir 0 (block_size sup) has.whole)
+
+-- so what a pointer of any level maps is passed
+passes : (level : ℕ) (image : List ℕ) (sup : Super) (stream : Stream) → HasPointers sup → Passes level image sup stream
+passes zero image sup stream has = passes_0 image sup stream has.some_bytes
+passes (suc level) image sup stream has = passes_next level image sup stream has (rows_of image sup has) (passes level image sup stream has)
+
+-- ---- a stream
+
+direct_pointer : (image : List ℕ) (sup : Super) (stream : Stream) (block : ℕ) → block < 12 → block_pointer image sup stream block ≡ value_of stream.direct block
+unfolding block_pointer
+direct_pointer image sup stream block below = let is : nat_lt block 12 ≡ true = grind (arith, nat_tests) in rw is refl
+
+maps_1 : (image : List ℕ) (sup : Super) (stream : Stream) → AreMapped 1 image sup stream 12 (value_of stream.indirect 0)
+unfolding block_pointer
+maps_1 image sup stream = λ number below.
+    let first : nat_lt (12 + number) 12 ≡ false = grind (arith, nat_tests) in
+    let second : nat_lt (12 + number) (12 + span sup 1) ≡ true = grind (arith, nat_tests) in
+    let same : 12 + number - 12 ≡ number = omega arith in
+    rw (first, second, same) refl
+
+maps_2 : (image : List ℕ) (sup : Super) (stream : Stream) → AreMapped 2 image sup stream (12 + span sup 1) (value_of stream.indirect 1)
+unfolding block_pointer
+maps_2 image sup stream = λ number below.
+    let first : nat_lt (12 + span sup 1 + number) 12 ≡ false = grind (arith, nat_tests) in
+    let second : nat_lt (12 + span sup 1 + number) (12 + span sup 1) ≡ false = grind (arith, nat_tests) in
+    let third : nat_lt (12 + span sup 1 + number) (12 + span sup 1 + span sup 2) ≡ true = grind (arith, nat_tests) in
+    let same : 12 + span sup 1 + number - (12 + span sup 1) ≡ number = omega arith in
+    rw (first, second, third, same) refl
+
+maps_3 : (image : List ℕ) (sup : Super) (stream : Stream) → AreMapped 3 image sup stream (12 + span sup 1 + span sup 2) (value_of stream.indirect 2)
+unfolding block_pointer
+maps_3 image sup stream = λ number below.
+    let first : nat_lt (12 + span sup 1 + span sup 2 + number) 12 ≡ false = grind (arith, nat_tests) in
+    let second : nat_lt (12 + span sup 1 + span sup 2 + number) (12 + span sup 1) ≡ false = grind (arith, nat_tests) in
+    let third : nat_lt (12 + span sup 1 + span sup 2 + number) (12 + span sup 1 + span sup 2) ≡ false = grind (arith, nat_tests) in
+    let same : 12 + span sup 1 + span sup 2 + number - (12 + span sup 1 + span sup 2) ≡ number = omega arith in
+    rw (first, second, third, same) refl
+
+-- where a walk has come to the blocks that a pointer maps
+come_to : (level : ℕ) (image : List ℕ) (sup : Super) (stream : Stream) (block : ℕ) (laid : Laid) (value : ℤ) → HasCome sup stream block laid → AreMapped level image sup stream block value
+    → laid.block < block_count sup stream.size → AreMapped level image sup stream laid.block value
+come_to level image sup stream block laid value come maps below =
+    let B : ℕ → Type 0 = λ b. AreMapped level image sup stream b value in
+    ⊎_elim (λ is. subst B (sym is) maps) (λ past. absurd (omega (arith, below, past))) come
+
+-- and then to those behind them
+come_on : (sup : Super) (stream : Stream) (block blocks : ℕ) (laid after : Laid) → HasCome sup stream block laid → HasCome sup stream (laid.block + blocks) after → HasCome sup stream (block + blocks) after
+come_on sup stream block blocks laid after was is =
+    ⊎_elim
+    (λ on. ⊎_elim (λ here. inl (omega (arith, on, here))) (λ past. inr (omega (arith, on, past))) was)
+    (λ past. inr past)
+    is
+
+pub direct_pass : (image : List ℕ) (sup : Super) (stream : Stream) → HasPointers sup → (pointers : List Pointer) (number : ℕ) (laid after : Laid) → number + length pointers ≤ 12
+    → ((i : ℕ) → i < length pointers → value_of pointers i ≡ value_of stream.direct (number + i)) → HasPassed image sup stream number laid
+    → result_of image (through (mapped_blocks 0 sup stream.size) laid pointers) ≡ Ok after → HasPassed image sup stream (number + length pointers) after
+direct_pass image sup stream has [] number laid after few are before gives =
+    let none : number ≡ number + 0 = omega arith in
+    let P : ℕ → Type 0 = λ block. HasPassed image sup stream block after in
+    subst P none (passed_of image sup stream number laid after (same_value laid after gives) before)
+direct_pass image sup stream has (pointer ∷ pointers) number laid after few are before gives =
+    let step = bind_gives image (mapped_blocks 0 sup stream.size laid pointer) _ after gives in
+    let here : AreMapped 0 image sup stream number pointer.value = λ other first.
+    let same : number + other ≡ number = omega (arith, first) in
+    let start : number ≡ number + 0 = omega arith in
+    ap (λ block. block_pointer image sup stream block) same ∙ direct_pointer image sup stream number (omega (arith, few)) ∙ ap (λ n. value_of stream.direct n) start ∙ sym (are 0 (omega arith)) in
+    let passed = passes 0 image sup stream has laid step.0 pointer.at pointer.value before.placed (come_to 0 image sup stream number laid pointer.value before.come here) step.1 in
+    let total : number + 1 + length pointers ≡ number + suc (length pointers) = omega arith in
+    let P : ℕ → Type 0 = λ block. HasPassed image sup stream block after in
+    subst P total
+    (direct_pass image sup stream has pointers (number + 1) step.0 after (omega (arith, few))
+    (λ i below. are (suc i) (omega (arith, below)) ∙ ap (λ n. value_of stream.direct n) (omega arith))
+    (record { placed = passed.placed; come = come_on sup stream number 1 laid step.0 before.come passed.come })
+    step.2)
+
+-- a walk that passed all blocks has the pieces of the stream
+pub all_passed : (image : List ℕ) (sup : Super) (stream : Stream) (block : ℕ) (laid : Laid) → 0 < block_size sup → block_count sup stream.size ≤ block → HasPassed image sup stream block laid → AreStreamPieces image sup stream laid.pieces
+all_passed image sup stream block laid some enough passed =
+    let count : block_count sup stream.size ≤ laid.block = ⊎_elim (λ is. omega (arith, is, enough)) (λ past. past) passed.come in
+    let end : min (laid.block * block_size sup) stream.size ≡ stream.size = omega (arith, blocks_hold stream.size (block_size sup) laid.block some count) in
+    let P : ℕ → Type 0 = λ size. ArePiecesAt (byte_place image sup stream) size laid.pieces in
+    subst P end passed.placed
+
+-- the content of an inode: twelve direct pointers, and three of rising levels
+pub content_law : (image : List ℕ) (sup : Super) (size : ℕ) (direct : List Pointer) (one two three : Pointer) (runs : ℕ) (after : Laid) → HasPointers sup → length direct ≡ 12
+    → block_count sup size ≤ 12 + span sup 1 + span sup 2 + span sup 3
+    → result_of image (stream_blocks sup (record { size = size; direct = direct; indirect = one ∷ two ∷ three ∷ [] }) runs) ≡ Ok after
+    → AreStreamPieces image sup (record { size = size; direct = direct; indirect = one ∷ two ∷ three ∷ [] }) after.pieces
+unfolding stream_blocks
+content_law image sup size direct one two three runs after has twelve reached gives =
+    let stream : Stream = record { size = size; direct = direct; indirect = one ∷ two ∷ three ∷ [] } in
+    let none : min (0 * block_size sup) size ≡ 0 = omega arith in
+    let N : ℕ → Type 0 = λ end. ArePiecesAt (byte_place image sup stream) end [] in
+    let start : HasPassed image sup stream 0 (none_laid runs) = record { placed = subst N (sym none) (record { covered = refl; placed = All-nil (IsPlaced (byte_place image sup stream)) }); come = inl refl } in
+    let a = bind_gives image (through (mapped_blocks 0 sup stream.size) (none_laid runs) direct) _ after gives in
+    let b = bind_gives image (mapped_blocks 1 sup stream.size a.0 one) _ after a.2 in
+    let c = bind_gives image (mapped_blocks 2 sup stream.size b.0 two) _ after b.2 in
+    let d = bind_gives image (mapped_blocks 3 sup stream.size c.0 three) _ after c.2 in
+    let all : ℕ → Type 0 = λ block. HasPassed image sup stream block a.0 in
+    let passed_a : HasPassed image sup stream 12 a.0 =
+    subst all (omega (arith, twelve)) (direct_pass image sup stream has direct 0 (none_laid runs) a.0 (omega (arith, twelve)) (λ i below. ap (λ n. value_of direct n) (omega arith)) start a.1) in
+    let on_b = passes 1 image sup stream has a.0 b.0 one.at one.value passed_a.placed (come_to 1 image sup stream 12 a.0 one.value passed_a.come (maps_1 image sup stream)) b.1 in
+    let passed_b : HasPassed image sup stream (12 + span sup 1) b.0 = record { placed = on_b.placed; come = come_on sup stream 12 (span sup 1) a.0 b.0 passed_a.come on_b.come } in
+    let on_c = passes 2 image sup stream has b.0 c.0 two.at two.value passed_b.placed (come_to 2 image sup stream (12 + span sup 1) b.0 two.value passed_b.come (maps_2 image sup stream)) c.1 in
+    let passed_c : HasPassed image sup stream (12 + span sup 1 + span sup 2) c.0 = record { placed = on_c.placed; come = come_on sup stream (12 + span sup 1) (span sup 2) b.0 c.0 passed_b.come on_c.come } in
+    let on_d = passes 3 image sup stream has c.0 d.0 three.at three.value passed_c.placed (come_to 3 image sup stream (12 + span sup 1 + span sup 2) c.0 three.value passed_c.come (maps_3 image sup stream)) d.1 in
+    let passed_d : HasPassed image sup stream (12 + span sup 1 + span sup 2 + span sup 3) d.0 = record { placed = on_d.placed; come = come_on sup stream (12 + span sup 1 + span sup 2) (span sup 3) c.0 d.0 passed_c.come on_d.come } in
+    let E : Laid → Type 0 = λ laid. AreStreamPieces image sup stream laid.pieces in
+    subst E (same_value d.0 after d.2) (all_passed image sup stream (12 + span sup 1 + span sup 2 + span sup 3) d.0 has.some_bytes reached passed_d)

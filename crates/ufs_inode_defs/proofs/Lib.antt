@@ -1,0 +1,5 @@
+pub mod BlockLaw
+pub mod InodeLaws
+pub mod SoundSuper
+pub mod StreamLaws
+pub mod Rows

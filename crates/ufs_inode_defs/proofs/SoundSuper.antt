@@ -1,0 +1,79 @@
+-- What holds of a superblock in which nothing is wrong.
+use Rattle.std.specs.Prelude.{◌≡◌, ℕ, ◌*◌, ◌/◌, ◌≤◌, ◌<◌, Bool, true, false, not, ◌&&◌, ◌==◌, nat_le, if◌then◌else◌, Some, None, List, [], ◌∷◌, refl}
+use Rattle.std.specs.Int.{is_power_of_two}
+use Rattle.std.proofs.Common.{arith, ap}
+use Rattle.std.proofs.lemmas.Bool.{leb-true}
+use Rattle.std.proofs.lemmas.Bool.Decides.{Decides-eqb}
+use Rattle.bytes_defs.specs.Numbers.{bytes_of_width}
+use Rattle.std.proofs.Math.Nat.{le-div_iff_mul-le, div-mul-le_self}
+use Rattle.ufs_inode_defs.specs.Layout.{Layout, layout_1, layout_2, pointer_len}
+use Rattle.ufs_inode_defs.specs.Superblock.{first_applying, wrong_parts, wrong_field, block_size, fragment_size, is_block_size, is_fragment_size}
+use Rattle.ufs_inode_defs.proofs.BlockLaw.{HasPointers}
+use Rattle.ufs_inode_defs.specs.declared.superblock.Super.{Super}
+
+-- no part of the list applies
+NoneApplies : List (Bool × ℕ) → Type 0
+NoneApplies [] = Unit {0}
+NoneApplies (part ∷ parts) = (part.0 ≡ false) × NoneApplies parts
+
+none_applies : (parts : List (Bool × ℕ)) → first_applying parts ≡ None → NoneApplies parts
+unfolding NoneApplies
+none_applies [] none = tt
+none_applies (part ∷ parts) none = first_or_later part.0 (λ later. none_applies parts later) none
+  where
+    first_or_later : (applies : Bool) → (first_applying parts ≡ None → NoneApplies parts) → (if applies then Some part.1 else first_applying parts) ≡ None → (applies ≡ false) × NoneApplies parts
+    first_or_later true later none = absurd cc
+    first_or_later false later none = (refl, later none)
+
+it_holds : (test : Bool) → not test ≡ false → test ≡ true
+it_holds true holds = refl
+it_holds false holds = absurd cc
+
+both_hold : (first second : Bool) → (first && second) ≡ true → (first ≡ true) × (second ≡ true)
+both_hold true second both = (refl, both)
+both_hold false second both = absurd cc
+
+least_block : (size : ℕ) → not (is_block_size size) ≡ false → 4096 ≤ size
+unfolding is_block_size
+least_block size none =
+    leb-true 4096 size (both_hold (nat_le 4096 size) (nat_le size 65536) (both_hold (is_power_of_two size) (nat_le 4096 size && nat_le size 65536) (it_holds (is_block_size size) none)).1).0
+
+least_fragment : (size : ℕ) → not (is_fragment_size size) ≡ false → 512 ≤ size
+unfolding is_fragment_size
+least_fragment size none = leb-true 512 size (both_hold (is_power_of_two size) (nat_le 512 size) (it_holds (is_fragment_size size) none)).1
+
+equal : (a b : ℕ) → not (a == b) ≡ false → a ≡ b
+equal a b none = (Decides-eqb a b).0 (it_holds (a == b) none)
+
+-- the least sizes, and as many pointers in a block as it has place for
+pub record IsSound (sup : Super) : Type 0 where
+  pub block : 4096 ≤ block_size sup
+  pub fragment : 512 ≤ fragment_size sup
+  pub pointers : sup.nindir ≡ block_size sup / pointer_len sup.version
+
+pub is_sound : (sup : Super) → wrong_field sup ≡ None → IsSound sup
+unfolding wrong_field NoneApplies
+is_sound sup none =
+    let parts = none_applies (wrong_parts sup) none in
+    record {
+      block = least_block (block_size sup) parts.0;
+      fragment = least_fragment (fragment_size sup) parts.1.0;
+      pointers = equal sup.nindir (block_size sup / pointer_len sup.version) parts.1.1.1.0;
+    }
+
+-- a pointer has some bytes
+pointer_bytes : (first : Bool) → (let layout : Layout = if first then layout_1 else layout_2 in (0 < bytes_of_width layout.pointer) × (bytes_of_width layout.pointer ≤ 8))
+pointer_bytes true = (omega arith, omega arith)
+pointer_bytes false = (omega arith, omega arith)
+
+-- so its blocks have pointers
+pub has_pointers : (sup : Super) → IsSound sup → HasPointers sup
+has_pointers sup sound =
+    let all = by_len (pointer_len sup.version) (pointer_bytes (sup.version == 1)) sound.pointers in
+    record { some_bytes = all.0; some_pointers = all.1; whole = all.2 }
+  where
+    by_len : (len : ℕ) → (0 < len) × (len ≤ 8) → sup.nindir ≡ block_size sup / len → (0 < block_size sup) × (0 < sup.nindir) × (sup.nindir * len ≤ block_size sup)
+    by_len len some is =
+        let one : 1 ≤ block_size sup / len = (le-div_iff_mul-le some.0).1 (omega (arith, sound.block, some.1)) in
+        let whole : sup.nindir * len ≤ block_size sup = let all = div-mul-le_self (block_size sup) len in omega (arith, ap (λ n. n * len) is, all) in
+        (omega (arith, sound.block), omega (arith, is, one), whole)

@@ -1,0 +1,101 @@
+-- The pieces of an inode's streams are those of its bytes.
+use Rattle.std.specs.Prelude.{◌≡◌, ℕ, suc, ◌+◌, ◌*◌, ◌<◌, ◌≤◌, min, Bool, true, false, ◌||◌, nat_lt, Result, Ok, List, [], ◌∷◌, length, refl}
+use Rattle.std.specs.Int.{div_ceil}
+use Rattle.std.proofs.Common.{ap, sym, ◌∙◌, subst, arith, inl, ⊎_elim}
+use Rattle.std.proofs.Math.Nat.{mul-le-mul_right, mul_comm}
+use Rattle.std.proofs.lemmas.Bool.{cases_lt, ltb-false}
+use Rattle.std.proofs.lemmas.Grind.{div_ceil_times}
+use Rattle.std.proofs.lemmas.List.Elements.{All-nil}
+use Rattle.image_defs.specs.Ask.{result_of}
+use Rattle.image_defs.specs.Through.{through}
+use Rattle.image_defs.proofs.Looks.{bind_gives}
+use Rattle.piece_defs.specs.Places.{IsPlaced, ArePiecesAt}
+use Rattle.fault_defs.specs.declared.Refusal.{Refusal}
+use Rattle.ufs_inode_defs.specs.Layout.{layout_of, pointer_len}
+use Rattle.ufs_inode_defs.specs.Superblock.{block_size, inode_place}
+use Rattle.ufs_inode_defs.specs.Inode.{reach, is_too_long}
+use Rattle.ufs_inode_defs.specs.Stream.{Pointer, Stream, pointers_from, span, block_count}
+use Rattle.ufs_inode_defs.specs.Blocks.{Laid, none_laid, mapped_blocks, rising_blocks, stream_blocks}
+use Rattle.ufs_inode_defs.specs.BlockPlace.{value_of, byte_place, AreStreamPieces}
+use Rattle.ufs_inode_defs.specs.StreamLaws.{StreamLaw}
+use Rattle.ufs_inode_defs.proofs.BlockLaw.{HasPointers, HasPassed, direct_pass, all_passed, content_law}
+use Rattle.ufs_inode_defs.proofs.InodeLaws.{HasRows, has_rows, pointers_from-length, inode_read}
+use Rattle.ufs_inode_defs.proofs.SoundSuper.{is_sound, has_pointers}
+use Rattle.ufs_inode_defs.specs.declared.superblock.Super.{Super}
+use Rattle.ufs_inode_defs.specs.declared.inode.Inode.{Inode}
+
+-- so many blocks hold the bytes
+few_blocks : (size unit count : ℕ) → 0 < unit → size ≤ count * unit → div_ceil size unit ≤ count
+few_blocks size unit count some fits =
+    ⊎_elim
+    (λ more.
+    let next : suc count * unit ≤ div_ceil size unit * unit = mul-le-mul_right unit more in
+    absurd (omega (arith, fits, next, (div_ceil_times size unit some).1)))
+    (λ enough. enough)
+    (cases_lt count (div_ceil size unit))
+
+-- a stream of no more blocks than it has direct pointers
+direct_law : (image : List ℕ) (sup : Super) (size : ℕ) (direct : List Pointer) (runs : ℕ) (laid : Laid) → HasPointers sup → length direct ≤ 12 → block_count sup size ≤ length direct
+    → result_of image (stream_blocks sup (record { size = size; direct = direct; indirect = [] }) runs) ≡ Ok laid → AreStreamPieces image sup (record { size = size; direct = direct; indirect = [] }) laid.pieces
+unfolding stream_blocks
+direct_law image sup size direct runs laid has few reached gives =
+    let stream : Stream = record { size = size; direct = direct; indirect = [] } in
+    let first = bind_gives image (through (mapped_blocks 0 sup size) (none_laid runs) direct) (λ found. rising_blocks 1 sup size found []) laid gives in
+    let none : min (0 * block_size sup) size ≡ 0 = omega arith in
+    let N : ℕ → Type 0 = λ end. ArePiecesAt (byte_place image sup stream) end [] in
+    let start : HasPassed image sup stream 0 (none_laid runs) = record { placed = subst N (sym none) (record { covered = refl; placed = All-nil (IsPlaced (byte_place image sup stream)) }); come = inl refl } in
+    let passed : HasPassed image sup stream (0 + length direct) first.0 =
+    direct_pass image sup stream has direct 0 (none_laid runs) first.0 (omega (arith, few)) (λ i below. ap (λ n. value_of direct n) (omega arith)) start first.1 in
+    let E : Laid → Type 0 = λ found. AreStreamPieces image sup stream found.pieces in
+    subst E (same_value first.0 laid first.2) (all_passed image sup stream (0 + length direct) first.0 has.some_bytes (omega (arith, reached)) passed)
+  where
+    same_value : (one other : Laid) → (let a : Result Laid Refusal = Ok one in let b : Result Laid Refusal = Ok other in a ≡ b) → one ≡ other
+    same_value one other same = cc
+
+-- a stream of twelve direct pointers and three to blocks of pointers
+three_law : (image : List ℕ) (sup : Super) (size : ℕ) (direct indirect : List Pointer) (runs : ℕ) (laid : Laid) → HasPointers sup → length direct ≡ 12 → length indirect ≡ 3
+    → block_count sup size ≤ 12 + span sup 1 + span sup 2 + span sup 3
+    → result_of image (stream_blocks sup (record { size = size; direct = direct; indirect = indirect }) runs) ≡ Ok laid → AreStreamPieces image sup (record { size = size; direct = direct; indirect = indirect }) laid.pieces
+three_law image sup size direct [] runs laid has twelve three reached gives = absurd (omega (arith, three))
+three_law image sup size direct (one ∷ []) runs laid has twelve three reached gives = absurd (omega (arith, three))
+three_law image sup size direct (one ∷ two ∷ []) runs laid has twelve three reached gives = absurd (omega (arith, three))
+three_law image sup size direct (one ∷ two ∷ last ∷ []) runs laid has twelve three reached gives = content_law image sup size direct one two last runs laid has twelve reached gives
+three_law image sup size direct (one ∷ two ∷ last ∷ more ∷ rest) runs laid has twelve three reached gives = absurd (omega (arith, three))
+
+or_false : (a b : Bool) → (a || b) ≡ false → b ≡ false
+or_false true b none = absurd cc
+or_false false b none = none
+
+-- what the pointers reach, in blocks
+reached_blocks : (sup : Super) (inode : Inode) → 0 < block_size sup → is_too_long sup inode ≡ false → block_count sup inode.size ≤ 12 + span sup 1 + span sup 2 + span sup 3
+reached_blocks sup inode some short =
+    let n : ℕ = sup.nindir in
+    let blocks : ℕ = 12 + n + n * n + n * (n * n) in
+    let within : inode.size ≤ reach sup = ltb-false (reach sup) inode.size (or_false (nat_lt 4611686018427387904 inode.size) (nat_lt (reach sup) inode.size) short) in
+    let turned : reach sup ≡ blocks * block_size sup = mul_comm (block_size sup) blocks in
+    let one : span sup 1 ≡ n = omega arith in
+    let two : span sup 2 ≡ n * n = ap (λ m. n * m) one in
+    let three : span sup 3 ≡ n * (n * n) = ap (λ m. n * m) two in
+    let few : div_ceil inode.size (block_size sup) ≤ blocks = few_blocks inode.size (block_size sup) blocks some (omega (arith, within, turned)) in
+    omega (arith, few, one, two, three)
+
+pub stream_law : StreamLaw
+stream_law image sup number inode sound gives =
+    let read = inode_read image sup number inode gives in
+    let has = has_pointers sup (is_sound sup sound) in
+    let rows : HasRows inode = subst HasRows read.is (has_rows sup (inode_place sup number) _) in
+    record {
+      content = λ runs laid.
+          three_law image sup inode.size
+          (pointers_from (inode.at + (layout_of sup.version).direct_at) (pointer_len sup.version) inode.direct)
+          (pointers_from (inode.at + (layout_of sup.version).indirect_at) (pointer_len sup.version) inode.indirect)
+          runs laid has
+          (pointers_from-length (inode.at + (layout_of sup.version).direct_at) (pointer_len sup.version) inode.direct ∙ rows.direct)
+          (pointers_from-length (inode.at + (layout_of sup.version).indirect_at) (pointer_len sup.version) inode.indirect ∙ rows.indirect)
+          (reached_blocks sup inode has.some_bytes read.sound.short);
+      extended = λ runs laid.
+          let two : length (pointers_from (inode.at + 96) 8 inode.ext) ≡ 2 = pointers_from-length (inode.at + 96) 8 inode.ext ∙ rows.ext in
+          let fits : inode.extsize ≤ 2 * block_size sup = ltb-false (2 * block_size sup) inode.extsize read.sound.ext_short in
+          let few : block_count sup inode.extsize ≤ 2 = few_blocks inode.extsize (block_size sup) 2 has.some_bytes fits in
+          direct_law image sup inode.extsize (pointers_from (inode.at + 96) 8 inode.ext) runs laid has (omega (arith, two)) (omega (arith, two, few));
+    }

@@ -1,0 +1,16 @@
+//! What a UFS volume says up to its inodes, and where each byte of an inode's streams stands.
+//!
+//! After FreeBSD's headers: `struct fs` of sys/ufs/ffs/fs.h, `struct ufs1_dinode` and `struct ufs2_dinode` of sys/ufs/ufs/dinode.h.
+//! A volume lies anywhere in an image and has its numbers in either order of bytes. A pointer counts fragments from the volume's
+//! first byte; the first twelve blocks are direct, and one, two and three levels of blocks of pointers map the rest.
+//!
+//!     // block 12 of a file is the first that its first block of pointers maps
+//!     block_pointer image sup stream 12 ≡ mapped_pointer 1 image sup (value_of stream.indirect 0) 0
+//!
+//! The promised laws of `laws`: the pieces that a walk over the pointers finds cover the content in order, are the longest, and put
+//! each byte where it stands; of a superblock that is refused a field is wrong, and none is of one that is read.
+#![tactic(auto)]
+
+pub mod inode;
+pub mod laws;
+pub mod superblock;
