@@ -1,0 +1,4 @@
+pub mod Directory
+pub mod Names
+pub mod Files
+pub mod Volume
