@@ -1,1 +1,3 @@
 pub mod Footprint
+pub mod Images
+pub mod Rows

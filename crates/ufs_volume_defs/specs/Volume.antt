@@ -1,5 +1,5 @@
 -- The tree of a UFS volume, and its guard.
-use Rattle.std.specs.Prelude.{◌≡◌, ℕ, ◌==◌, nat_le, if◌then◌else◌, Result, Ok, List, [], ◌∷◌, length}
+use Rattle.std.specs.Prelude.{◌≡◌, ℕ, ◌==◌, nat_le, if◌then◌else◌, Result, List, [], ◌∷◌, length}
 use Rattle.range_defs.specs.declared.Range.{Range}
 use Rattle.range_defs.specs.declared.TheConstants.{LONGEST_IMAGE}
 use Rattle.range_defs.specs.Places.{covers, longest_ranges}
@@ -16,8 +16,8 @@ use Rattle.fault_defs.specs.declared.Refusal.TheVariants.{Limit}
 use Rattle.fault_defs.specs.declared.Bound.TheVariants.{Image}
 use Rattle.ufs_inode_defs.specs.Superblock.{volume_super}
 use Rattle.ufs_inode_defs.specs.declared.superblock.Super.{Super}
-use Rattle.ufs_volume_defs.specs.Names.{Walk, volume_names}
-use Rattle.ufs_volume_defs.specs.Files.{Filed, named_files}
+use Rattle.ufs_volume_defs.specs.Names.{volume_names}
+use Rattle.ufs_volume_defs.specs.Files.{named_files}
 
 -- a volume: its superblock, and its files by rising number
 pub record FoundVolume : Type 0 where
