@@ -1,3 +1,4 @@
 pub mod Footprint
 pub mod Images
 pub mod Rows
+pub mod GuardRow
