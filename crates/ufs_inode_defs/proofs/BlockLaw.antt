@@ -62,7 +62,7 @@ pub record HasPassed (image : List ℕ) (sup : Super) (stream : Stream) (block :
 same_value : (a b : Laid) → (let first : Result Laid Refusal = Ok a in let second : Result Laid Refusal = Ok b in first ≡ second) → a ≡ b
 same_value a b same = cc
 
-counted_gives : (image : List ℕ) (laid after : Laid) → result_of image (counted_runs laid) ≡ Ok after → laid ≡ after
+pub counted_gives : (image : List ℕ) (laid after : Laid) → result_of image (counted_runs laid) ≡ Ok after → laid ≡ after
 counted_gives image laid after gives = same_value laid after (check_gives image (nat_le (runs_of laid) most_runs) (Limit Runs most_runs) (λ x. Done laid) after gives).1
 
 passed_of : (image : List ℕ) (sup : Super) (stream : Stream) (block : ℕ) (laid after : Laid) → laid ≡ after → HasPassed image sup stream block laid → HasPassed image sup stream block after
@@ -116,7 +116,7 @@ block_laid image sup stream laid fragment some below before is =
     }))
 
 -- a walk stands where it was behind the end, and else it goes on
-past_or : (image : List ℕ) (past : Bool) (laid after : Laid) (more : Ask Refusal Laid) → result_of image (if past then Done laid else more) ≡ Ok after
+pub past_or : (image : List ℕ) (past : Bool) (laid after : Laid) (more : Ask Refusal Laid) → result_of image (if past then Done laid else more) ≡ Ok after
     → ((past ≡ true) × (laid ≡ after)) ⊎ ((past ≡ false) × (result_of image more ≡ Ok after))
 past_or image true laid after more gives = inl (refl, same_value laid after gives)
 past_or image false laid after more gives = inr (refl, gives)
@@ -151,7 +151,7 @@ block_passes image sup stream laid after at (pos (suc fragment)) some below befo
     })
 block_passes image sup stream laid after at (negsuc n) some below before is gives = absurd cc
 
-not_past : (count block : ℕ) → nat_le count block ≡ false → block < count
+pub not_past : (count block : ℕ) → nat_le count block ≡ false → block < count
 not_past count block is = grind (arith, nat_tests)
 
 passes_0 : (image : List ℕ) (sup : Super) (stream : Stream) → 0 < block_size sup → Passes 0 image sup stream
@@ -167,7 +167,7 @@ passes_0 image sup stream some = λ laid after at value before maps gives.
 -- ---- a block of pointers
 
 -- some bytes hold the pointers of a block from a number on
-abbrev IsRow : List ℕ → Super → ℕ → ℕ → ℕ → List ℕ → Type 0
+abbrev pub IsRow : List ℕ → Super → ℕ → ℕ → ℕ → List ℕ → Type 0
 IsRow image sup place zero number bytes = Unit {0}
 IsRow image sup place (suc more) number bytes =
     (signed_at sup.order (layout_of sup.version).pointer bytes 0 ≡ pointer_at image sup place number)
@@ -226,7 +226,7 @@ pub record HasPointers (sup : Super) : Type 0 where
   pub some_pointers : 0 < sup.nindir
   pub whole : sup.nindir * pointer_len sup.version ≤ block_size sup
 
-some_span : (sup : Super) → 0 < sup.nindir → (level : ℕ) → 0 < span sup level
+pub some_span : (sup : Super) → 0 < sup.nindir → (level : ℕ) → 0 < span sup level
 some_span sup some zero = omega arith
 some_span sup some (suc level) =
     let one : 1 * span sup level ≤ sup.nindir * span sup level = mul-le-mul_right (span sup level) some in
@@ -286,7 +286,7 @@ row_from image sup place (suc more) number rest fits =
       subst P (sym split) (row_from image sup place more (number + 1) (rest - len) (omega (arith, first, fits))),
     )
 
-rows_of : (image : List ℕ) (sup : Super) → HasPointers sup → (place : ℕ) → IsRow image sup place sup.nindir 0 (part image place (block_size sup))
+pub rows_of : (image : List ℕ) (sup : Super) → HasPointers sup → (place : ℕ) → IsRow image sup place sup.nindir 0 (part image place (block_size sup))
 rows_of image sup has place =
     let none : place + 0 * pointer_len sup.version ≡ place = omega arith in
     let P : ℕ → Type 0 = λ n. IsRow image sup place sup.nindir 0 (part image n (block_size sup)) in

@@ -1,7 +1,6 @@
 -- What an inode that is read says.
 use Rattle.std.specs.Prelude.{◌≡◌, ℕ, suc, ◌+◌, ℤ, ◌==◌, Bool, true, false, not, if◌then◌else◌, Result, Ok, List, [], ◌∷◌, length, refl}
 use Rattle.std.proofs.Common.{ap, subst}
-use Rattle.bytes_defs.specs.Bytes.{part}
 use Rattle.bytes_defs.specs.declared.order.Order.{Order}
 use Rattle.image_defs.specs.Ask.{Done, result_of, check}
 use Rattle.image_defs.proofs.Looks.{bind_gives, check_gives}
@@ -9,16 +8,10 @@ use Rattle.fault_defs.specs.declared.Refusal.{Refusal}
 use Rattle.fault_defs.specs.declared.Refusal.TheVariants.{Damaged, Unsupported}
 use Rattle.fault_defs.specs.declared.Sort.TheVariants.{DeadInode, FileSize}
 use Rattle.fault_defs.specs.declared.What.TheVariants.{Snapshot}
-use Rattle.ufs_inode_defs.specs.Layout.{layout_of}
-use Rattle.ufs_inode_defs.specs.Superblock.{inode_place}
-use Rattle.ufs_inode_defs.specs.Inode.{inode_1, inode_2, inode_of, is_snapshot, is_too_long, is_ext_too_long, size_place, ext_size_place, flags_place, sound_inode, inode_at}
+use Rattle.ufs_inode_defs.specs.Inode.{stored_inode, inode_1, inode_2, inode_of, is_snapshot, is_too_long, is_ext_too_long, size_place, ext_size_place, flags_place, sound_inode, inode_at}
 use Rattle.ufs_inode_defs.specs.Stream.{pointers_from}
 use Rattle.ufs_inode_defs.specs.declared.superblock.Super.{Super}
 use Rattle.ufs_inode_defs.specs.declared.inode.Inode.{Inode}
-
--- the inode of a number as it stands in an image, sound or not
-abbrev pub stored_inode : List ℕ → Super → ℕ → Inode
-stored_inode image sup number = inode_of sup (inode_place sup number) (part image (inode_place sup number) (layout_of sup.version).inode_len)
 
 -- what is tested of an inode
 pub record IsSoundInode (sup : Super) (inode : Inode) : Type 0 where

@@ -1,6 +1,7 @@
 -- Inodes: FreeBSD's sys/ufs/ufs/dinode.h.
 use Rattle.std.specs.Prelude.{ℕ, ◌+◌, ◌*◌, pos, Bool, not, ◌&&◌, ◌||◌, ◌==◌, nat_lt, bit_and, if◌then◌else◌, List, [], ◌∷◌}
 use Rattle.std.specs.Int.{w32, w64}
+use Rattle.bytes_defs.specs.Bytes.{part}
 use Rattle.bytes_defs.specs.Numbers.{number_at, signed_at}
 use Rattle.bytes_defs.specs.declared.order.Order.{Order}
 use Rattle.image_defs.specs.Ask.{Ask, Done, look, check, ◌>>=◌, ◌>>◌}
@@ -59,6 +60,10 @@ inode_2 order at bytes = record {
 -- the inode at a place that these bytes hold
 abbrev pub inode_of : Super → ℕ → List ℕ → Inode
 inode_of sup at bytes = if sup.version == 1 then inode_1 sup.order at bytes else inode_2 sup.order at bytes
+
+-- the inode of a number as it stands in an image, sound or not
+abbrev pub stored_inode : List ℕ → Super → ℕ → Inode
+stored_inode image sup number = inode_of sup (inode_place sup number) (part image (inode_place sup number) (layout_of sup.version).inode_len)
 
 -- the bits of the mode that say what a file is
 abbrev pub type_bits : Inode → ℕ

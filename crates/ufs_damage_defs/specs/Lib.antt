@@ -1,0 +1,2 @@
+pub mod StreamDamage
+pub mod Damage
