@@ -1,3 +1,5 @@
 pub mod Walks
 pub mod StreamDamage
 pub mod StreamStops
+pub mod SuperDamage
+pub mod InodeDamage

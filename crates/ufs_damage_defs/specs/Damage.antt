@@ -28,6 +28,7 @@ use Rattle.ufs_inode_defs.specs.declared.inode.Inode.{Inode}
 use Rattle.ufs_volume_defs.specs.Directory.{Entry, entries_of, leading_entries}
 use Rattle.ufs_volume_defs.specs.Names.{Named, Walk, path_bytes, longest_path, most_names, most_path_bytes, deepest, volume_names}
 use Rattle.ufs_volume_defs.specs.Files.{Section, sections_of, named_files}
+use Rattle.ufs_volume_defs.specs.Volume.{FoundVolume, volume_at}
 use Rattle.ufs_damage_defs.specs.StreamDamage.{HasBadPointer}
 
 -- ---- the superblock
@@ -158,13 +159,15 @@ pub data IsFalseIn (image : List ℕ) (sup : Super) : Sort → ℕ → Type 0 wh
 pub data IsFalseAt (orders : List Order) (image : List ℕ) (volume : Range) : Sort → ℕ → Type 0 where
   WrongField : (version : ℕ) (order : Order) (at : ℕ) → HasMagic orders image volume version order → wrong_field (stored_super image volume version order) ≡ Some at
       → IsFalseAt orders image volume SuperField (super_place (stored_super image volume version order) + at)
-  InVolume : (sup : Super) (sort : Sort) (place : ℕ) → HasSuper orders image volume sup → IsFalseIn image sup sort place → IsFalseAt orders image volume sort place
+  FalseIn : (sup : Super) (sort : Sort) (place : ℕ) → HasSuper orders image volume sup → IsFalseIn image sup sort place → IsFalseAt orders image volume sort place
 
 -- ---- what isn't supported: a snapshot
 
+pub data IsUnsupportedIn (image : List ℕ) (sup : Super) : What → ℕ → Type 0 where
+  IsSnapshot : (number : ℕ) (inode : Inode) → HasInode image sup number inode → is_snapshot inode ≡ true → IsUnsupportedIn image sup Snapshot (flags_place sup inode)
+
 pub data IsUnsupportedAt (orders : List Order) (image : List ℕ) (volume : Range) : What → ℕ → Type 0 where
-  IsSnapshot : (sup : Super) (number : ℕ) (inode : Inode) → HasSuper orders image volume sup → HasInode image sup number inode → is_snapshot inode ≡ true
-      → IsUnsupportedAt orders image volume Snapshot (flags_place sup inode)
+  UnsupportedIn : (sup : Super) (what : What) (place : ℕ) → HasSuper orders image volume sup → IsUnsupportedIn image sup what place → IsUnsupportedAt orders image volume what place
 
 -- ---- limits
 
@@ -178,18 +181,19 @@ pub data CountsMore (image : List ℕ) (sup : Super) (number : ℕ) : Type 0 whe
   OfDirectories : result_of image (volume_names sup) ≡ Err (Limit Runs most_runs) → CountsMore image sup number
   OfFiles : (walk : Walk) → result_of image (volume_names sup) ≡ Ok walk → result_of image (named_files sup number walk.names) ≡ Err (Limit Runs most_runs) → CountsMore image sup number
 
--- what there is more of than its limit: bytes of the image; bytes of a path; names, beside the root's, and bytes of all of
--- them; directories above one another; runs
+-- what a volume of a number with a sound superblock has more of than its limit: bytes of a path; names, beside the root's, and
+-- bytes of all of them; directories above one another; runs
+pub data IsOverIn (image : List ℕ) (sup : Super) (number : ℕ) : Bound → ℕ → Type 0 where
+  LongPath : (inode place depth : ℕ) (path : List ℕ) → IsReached image sup inode place depth path → longest_path < length path → IsOverIn image sup number Path longest_path
+  ManyNames : (names : List Named) → AreNames image sup names → most_names < suc (length names) → IsOverIn image sup number Names most_names
+  LongNames : (names : List Named) → AreNames image sup names → most_path_bytes < suc (path_bytes names) → IsOverIn image sup number PathBytes most_path_bytes
+  Deep : (inode place depth : ℕ) (path : List ℕ) → IsReached image sup inode place depth path → is_directory (stored_inode image sup inode) ≡ true → deepest < depth
+      → IsOverIn image sup number Depth deepest
+  ManyRuns : CountsMore image sup number → IsOverIn image sup number Runs most_runs
+
 pub data IsOver (orders : List Order) (image : List ℕ) (volume : Range) (number : ℕ) : Bound → ℕ → Type 0 where
   LongImage : LONGEST_IMAGE < length image → IsOver orders image volume number Image LONGEST_IMAGE
-  LongPath : (sup : Super) (inode place depth : ℕ) (path : List ℕ) → HasSuper orders image volume sup → IsReached image sup inode place depth path → longest_path < length path
-      → IsOver orders image volume number Path longest_path
-  ManyNames : (sup : Super) (names : List Named) → HasSuper orders image volume sup → AreNames image sup names → most_names < suc (length names) → IsOver orders image volume number Names most_names
-  LongNames : (sup : Super) (names : List Named) → HasSuper orders image volume sup → AreNames image sup names → most_path_bytes < suc (path_bytes names)
-      → IsOver orders image volume number PathBytes most_path_bytes
-  Deep : (sup : Super) (inode_number place depth : ℕ) (path : List ℕ) (inode : Inode) → HasSuper orders image volume sup → IsReached image sup inode_number place depth path
-      → stored_inode image sup inode_number ≡ inode → is_directory inode ≡ true → deepest < depth → IsOver orders image volume number Depth deepest
-  ManyRuns : (sup : Super) → HasSuper orders image volume sup → CountsMore image sup number → IsOver orders image volume number Runs most_runs
+  OverIn : (sup : Super) (bound : Bound) (most : ℕ) → HasSuper orders image volume sup → IsOverIn image sup number bound most → IsOver orders image volume number bound most
 
 -- ---- the laws
 
@@ -199,3 +203,16 @@ IsWrong orders image volume number NotThis = ⊥
 IsWrong orders image volume number (Damaged sort place) = IsFalseAt orders image volume sort place
 IsWrong orders image volume number (Unsupported what place) = IsUnsupportedAt orders image volume what place
 IsWrong orders image volume number (Limit bound most) = IsOver orders image volume number bound most
+
+-- A volume without the magic is something else. What refuses a volume with the magic is wrong with it, nothing is wrong with one
+-- that is read, and one with which nothing is wrong is read.
+pub record RefusalsAreTrue (orders : List Order) (image : List ℕ) (volume : Range) (number : ℕ) : Type 0 where
+  pub other : ((version : ℕ) (order : Order) → HasMagic orders image volume version order → ⊥) → result_of image (volume_at orders (length image) volume number) ≡ Err NotThis
+  pub refuses : (version : ℕ) (order : Order) (refusal : Refusal) → HasMagic orders image volume version order → result_of image (volume_at orders (length image) volume number) ≡ Err refusal
+      → IsWrong orders image volume number refusal
+  pub accepts : (found : FoundVolume) (refusal : Refusal) → result_of image (volume_at orders (length image) volume number) ≡ Ok found → IsWrong orders image volume number refusal → ⊥
+  pub complete : (version : ℕ) (order : Order) → HasMagic orders image volume version order → ((refusal : Refusal) → IsWrong orders image volume number refusal → ⊥)
+      → (found : FoundVolume) × (result_of image (volume_at orders (length image) volume number) ≡ Ok found)
+
+abbrev pub UfsDamageLaw : Type 0
+UfsDamageLaw = (orders : List Order) (image : List ℕ) (volume : Range) (number : ℕ) → RefusalsAreTrue orders image volume number
