@@ -3,3 +3,5 @@ pub mod StreamDamage
 pub mod StreamStops
 pub mod SuperDamage
 pub mod InodeDamage
+pub mod DirectoryLaws
+pub mod NameFacts
