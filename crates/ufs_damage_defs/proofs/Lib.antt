@@ -5,3 +5,4 @@ pub mod SuperDamage
 pub mod InodeDamage
 pub mod DirectoryLaws
 pub mod NameFacts
+pub mod NameSteps
