@@ -6,3 +6,4 @@ pub mod InodeDamage
 pub mod DirectoryLaws
 pub mod NameFacts
 pub mod NameSteps
+pub mod NameDamage

@@ -150,17 +150,17 @@ module _ (image : List ℕ) (sup : Super) (volume : ℕ) (root : Inode) where
       }
 
       pub walks_on : (inode : Inode) → Contains walked directory.number → (is_directory inode ≡ true → is_known entry.inode walk.names ≡ false)
-          → IsWalk walked (walk.names ++ name_by sup directory block entry inode ∷ [])
+          → (next : IsWalk walked (walk.names ++ name_by sup directory block entry inode ∷ [])) × (next.rest ≡ walks.rest ++ name_by sup directory block entry inode ∷ [])
       walks_on inode has once =
           let name : Named = name_by sup directory block entry inode in
-          record {
+          (record {
             rest = walks.rest ++ name ∷ [];
             whole = ap (λ list. list ++ name ∷ []) walks.whole;
             given = All-push IsGivenBySome walks.rest name walks.given (block.at + entry.at, given inode);
             apart = apart_from inode;
             once = once_push (λ n. ⊥) walk.names name walks.once (λ is_one either. ⊎_elim (λ never. never) (λ known. both_ways (is_known entry.inode walk.names) (is_known-true entry.inode walk.names known) (once is_one)) either);
             from = All-push (λ n. Contains walked n.directory) walks.rest name walks.from has;
-          }
+          }, refl)
 
       -- ---- what it is refused for
 

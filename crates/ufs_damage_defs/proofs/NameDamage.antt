@@ -1,0 +1,469 @@
+-- What refuses a walk over directories is wrong with the volume, or is the limit on runs.
+use Rattle.std.specs.Prelude.{◌≡◌, ◌⊎◌, ℕ, zero, suc, ◌+◌, ◌*◌, ◌%◌, ◌<◌, ◌≤◌, min, Bool, true, false, not, ◌&&◌, ◌==◌, nat_le, nat_lt, if◌then◌else◌, Option, Some, None, Result, Ok, Err, List, [], ◌∷◌, ◌++◌, length, take, drop, refl}
+use Rattle.std.specs.List.{All, AllPairs, Contains, filter}
+use Rattle.std.proofs.Common.{ap, sym, ◌∙◌, subst, arith, inl, inr, ⊎_elim, append_assoc, append-nil}
+use Rattle.std.proofs.lemmas.Bool.Decides.{Decides-eqb}
+use Rattle.std.proofs.lemmas.Bool.{cases_eq}
+use Rattle.std.proofs.lemmas.List.{length-take}
+use Rattle.std.proofs.lemmas.List.Elements.{All-push, All-head, All-tail, All-cons, All-nil, All-weaker, All-filter, All-contains_itself, Contains-append_left, Contains-append_right, filter_passes}
+use Rattle.bytes_defs.specs.Bytes.{part}
+use Rattle.image_defs.specs.Ask.{Ask, Done, Stop, result_of, look, check, given, ◌>>=◌, ◌>>◌}
+use Rattle.image_defs.specs.Through.{through}
+use Rattle.image_defs.proofs.Looks.{bind_gives, check_gives, given_gives, bind_refuses, check_refuses, given_refuses}
+use Rattle.image_defs.proofs.Runs.{result_given}
+use Rattle.rx_ranges.specs.declared.pieces.Piece.{Piece}
+use Rattle.piece_defs.specs.Places.{place_through, ArePiecesAt}
+use Rattle.piece_defs.proofs.ThroughLaws.{through_law}
+use Rattle.fault_defs.specs.declared.Refusal.{Refusal}
+use Rattle.fault_defs.specs.declared.Refusal.TheVariants.{Damaged, Limit}
+use Rattle.fault_defs.specs.declared.Sort.TheVariants.{RootKind, DirSize, DirEntry, BlockPointer}
+use Rattle.fault_defs.specs.declared.Bound.TheVariants.{Depth, Runs}
+use Rattle.ufs_inode_defs.specs.Layout.{layout_of}
+use Rattle.ufs_inode_defs.specs.Superblock.{block_size, wrong_field, super_place}
+use Rattle.ufs_inode_defs.specs.Inode.{stored_inode, is_directory, is_link, is_short_link, type_bits, size_place, inode_at, inode_named}
+use Rattle.ufs_inode_defs.specs.Stream.{Stream, content_stream, block_count, content_len}
+use Rattle.ufs_inode_defs.specs.Blocks.{Laid, runs_of, most_runs, stream_blocks}
+use Rattle.ufs_inode_defs.specs.BlockPlace.{byte_place}
+use Rattle.ufs_inode_defs.specs.declared.superblock.Super.{Super}
+use Rattle.ufs_inode_defs.specs.declared.inode.Inode.{Inode}
+use Rattle.ufs_inode_defs.proofs.BlockLaw.{HasPointers, block_begins}
+use Rattle.ufs_inode_defs.proofs.InodeLaws.{IsRead}
+use Rattle.ufs_inode_defs.proofs.SoundSuper.{is_sound, has_pointers}
+use Rattle.ufs_inode_defs.proofs.StreamLaws.{stream_law}
+use Rattle.ufs_volume_defs.specs.Directory.{Entry, entries_of, leading_entries}
+use Rattle.ufs_volume_defs.specs.Names.{Named, Walk, with_name, with_runs, names_directory, deepest, Block, name_by, entry_name, leading, block_names, placed_block, directory_blocks, directory_names, directories_behind, names_below, root_inode, root_name, names_from, volume_names}
+use Rattle.rx_tree.specs.declared.part.Role.TheVariants.{Content}
+use Rattle.rx_tree.specs.declared.file.Kind.TheVariants.{File, Dir, Link, Other}
+use Rattle.ufs_inode_defs.specs.Inode.{is_file}
+use Rattle.ufs_volume_defs.specs.Files.{Section, content_sections, extended_sections, sections_by, sections_of}
+use Rattle.ufs_damage_defs.specs.StreamDamage.{HasBadPointer}
+use Rattle.ufs_damage_defs.specs.Damage.{HasBlock, block_bytes, HasHole, HasGoodPointers, IsGoodDirectory, IsReached, Root, HasInode, HasSoundInode, IsFalseIn, NoDirectory, BadPointer, OtherSize, InHole, BadEntry, IsOverIn, Deep}
+use Rattle.ufs_damage_defs.proofs.Walks.{same_value, same_error, through_keeps, StopsAt, through_stops_at}
+use Rattle.ufs_damage_defs.proofs.StreamDamage.{StopsStream, AtPointer, AtRuns}
+use Rattle.ufs_damage_defs.proofs.StreamStops.{stream_stops, stream_sound}
+use Rattle.ufs_damage_defs.proofs.InodeDamage.{IsWrongIn, both_ways, named_gives, named_is, named_refused}
+use Rattle.ufs_damage_defs.proofs.DirectoryLaws.{AreRising, leading_rise, AreBlocks, blocks_are, hole_of, block_among}
+use Rattle.ufs_damage_defs.proofs.NameFacts.{in_cases, in_head, in_tail, IsKnown, known_more, AreOnce, once_behind, AreFresh, fresh_of, dropped}
+use Rattle.ufs_damage_defs.proofs.NameSteps.{IsFound, IsGivenBySome, IsWalk, IsBehind, IsEntry, IsEntered, entry_gives, given as given_name, found as found_name, walks_on, entry_refused}
+
+-- ---- a directory's content
+
+wider : (end longer from : ℕ) (entries : List Entry) → end ≤ longer → AreRising end from entries → AreRising longer from entries
+wider end longer from [] more rise = tt
+wider end longer from (entry ∷ entries) more rise = let below = rise.1 in (rise.0, omega (arith, below, more), wider end longer (suc entry.at) entries more rise.2)
+
+module _ (image : List ℕ) (sup : Super) (sound : wrong_field sup ≡ None) where
+  -- where its pieces put a byte, it stands
+  pub pieces_place : (number : ℕ) (inode : Inode) (runs : ℕ) (laid : Laid) → result_of image (inode_at sup number) ≡ Ok inode → result_of image (stream_blocks sup (content_stream sup inode) runs) ≡ Ok laid
+      → (index : ℕ) → index < block_count sup inode.size → place_through laid.pieces (index * block_size sup) ≡ byte_place image sup (content_stream sup inode) (index * block_size sup)
+  pieces_place number inode runs laid read gives index below =
+      let are = (stream_law image sup number inode sound read).content runs laid gives in
+      let some : 0 < block_size sup = (has_pointers sup (is_sound sup sound)).some_bytes in
+      (through_law image (byte_place image sup (content_stream sup inode)) inode.size laid.pieces are).places (index * block_size sup) (block_begins inode.size (block_size sup) index some below)
+
+  -- a directory whose blocks were found is good
+  pub good_of : (number : ℕ) (inode : Inode) (runs : ℕ) (laid : Laid) (blocks : List Block) → result_of image (inode_at sup number) ≡ Ok inode → is_directory inode ≡ true → inode.size % 512 ≡ 0
+      → result_of image (stream_blocks sup (content_stream sup inode) runs) ≡ Ok laid → directory_blocks sup inode laid.pieces ≡ Ok blocks → IsGoodDirectory image sup inode
+  good_of number inode runs laid blocks read is whole gives are = record {
+    directory = is;
+    whole = whole;
+    pointers = stream_sound image sup (content_stream sup inode) (has_pointers sup (is_sound sup sound)) runs laid gives;
+    filled = λ hole.
+        let all = blocks_are sup inode laid.pieces blocks are in
+        let many = all.1 in
+        absurd (never hole.index blocks 0 all.0 (omega arith) (let below = hole.below in omega (arith, below, many))
+        (pieces_place number inode runs laid read gives hole.index hole.below ∙ hole.none));
+  }
+    where
+      never : (index : ℕ) (blocks : List Block) (first : ℕ) → AreBlocks sup laid.pieces first blocks → first ≤ index → index < first + length blocks → place_through laid.pieces (index * block_size sup) ≡ None → ⊥
+      never index [] first all from below none = omega (arith, from, below)
+      never index (block ∷ blocks) first all from below none =
+          ⊎_elim
+          (λ same. let P : ℕ → Type 0 = λ n. place_through laid.pieces (n * block_size sup) ≡ Some block.at in not_some block.at (subst P same all.1) none)
+          (λ differ. never index blocks (suc first) all.2 (omega (arith, from, differ)) (omega (arith, below)) none)
+          (cases_eq first index)
+        where
+          not_some : (at : ℕ) → place_through laid.pieces (index * block_size sup) ≡ Some at → place_through laid.pieces (index * block_size sup) ≡ None → ⊥
+          not_some at some nothing = absurd cc
+
+  -- the bytes of a block are no more than a block has
+  block_fits : (inode : Inode) (index at : ℕ) → length (block_bytes image sup inode index at) ≤ block_size sup
+  unfolding part
+  block_fits inode index at = let len = length-take (content_len sup inode.size index) (drop at image) in omega (arith, len)
+
+-- ---- the content is a part of a directory
+
+abbrev pub content_part : Super → Inode → Section
+content_part sup inode = record { role = Content; name = []; stream = content_stream sup inode }
+
+pub content_section : (sup : Super) (inode : Inode) → is_directory inode ≡ true → Contains (sections_of sup inode) (content_part sup inode)
+unfolding sections_of
+content_section sup inode is =
+    let link : is_link inode ≡ false = no_link (type_bits inode) ((Decides-eqb (type_bits inode) 0x4000).0 is) in
+    by_kind (is_directory inode) is (Contains-append_left (content_sections sup inode) (extended_sections inode) _ (by_link (is_link inode) link))
+  where
+    no_link : (bits : ℕ) → bits ≡ 0x4000 → (bits == 0xA000) ≡ false
+    no_link bits same = ap (λ n. n == 0xA000) same
+
+    by_link : (link : Bool) → link ≡ false
+        → Contains (if link && nat_lt inode.size (layout_of sup.version).short_link then [] else (content_part sup inode ∷ [])) (content_part sup inode)
+    by_link true same = absurd cc
+    by_link false same = in_head (content_part sup inode) []
+
+    by_kind : (directory : Bool) → directory ≡ true → Contains (content_sections sup inode ++ extended_sections inode) (content_part sup inode)
+        → Contains (sections_by (if directory then Dir else (if is_file inode then File else (if is_link inode then Link else Other))) sup inode) (content_part sup inode)
+    by_kind true same has = has
+    by_kind false same has = absurd cc
+
+-- ---- the walk
+
+-- a refusal is wrong with the volume, or the limit on runs
+abbrev pub StopsIn : List ℕ → Super → ℕ → Refusal → Type 0
+StopsIn image sup volume e = IsWrongIn image sup volume e ⊎ (Limit Runs most_runs ≡ e)
+
+module _ (image : List ℕ) (sup : Super) (volume : ℕ) (root : Inode) (sound : wrong_field sup ≡ None) where
+  -- a walk at a depth that began with some names: those that were found behind them
+  pub record IsLevel (depth : ℕ) (walked : List ℕ) (start names : List Named) : Type 0 where
+    pub walks : IsWalk image sup volume root walked names
+    pub more : List Named
+    pub grown : names ≡ start ++ more
+    pub found : All (IsFound image sup volume root (suc depth)) more
+
+  -- ---- in a directory
+
+  module _ (depth : ℕ) (directory : Named) (of : IsFound image sup volume root depth directory) (good : IsGoodDirectory image sup directory.inode) (walked : List ℕ) (has : Contains walked directory.number) (start : List Named) where
+    -- in a block, in front of some entries
+    record InBlock (block : Block) (entries : List Entry) (left : List Entry) (walk : Walk) : Type 0 where
+      level : IsLevel depth walked start walk.names
+      bound : ℕ
+      fits : bound ≤ block_size sup
+      behind : IsBehind image sup volume root directory.number (block.index * block_size sup + bound) level.walks.rest
+      rise : AreRising (block_size sup) bound left
+      among : All (Contains (leading_entries entries)) left
+
+    module _ (block : Block) (entries : List Entry) (there : HasBlock image sup directory.inode block.index block.at)
+      (read : entries_of sup.order (block_bytes image sup directory.inode block.index block.at) ≡ Ok entries) where
+      entry_is : (entry : Entry) (left : List Entry) (walk : Walk) → InBlock block entries (entry ∷ left) walk → IsEntry image sup volume root depth directory block entry
+      entry_is entry left walk state = record {
+        found = of;
+        good = good;
+        has_block = there;
+        entries = entries;
+        read = read;
+        among = All-head (Contains (leading_entries entries)) entry left state.among;
+      }
+
+      in_front : (entry : Entry) (left : List Entry) (walk : Walk) (state : InBlock block entries (entry ∷ left) walk)
+          → IsBehind image sup volume root directory.number (block.index * block_size sup + entry.at) state.level.walks.rest
+      in_front entry left walk state =
+          All-weaker (λ (name : Named). name.directory ≡ directory.number → name.offset < block.index * block_size sup + state.bound)
+          (λ name. name.directory ≡ directory.number → name.offset < block.index * block_size sup + entry.at)
+          (λ name before same. let front = before same in let from = state.rise.0 in omega (arith, front, from))
+          state.level.walks.rest state.behind
+
+      entry_goes_on : (entry : Entry) (left : List Entry) (walk after : Walk) → InBlock block entries (entry ∷ left) walk → result_of image (entry_name sup directory block walk entry) ≡ Ok after → InBlock block entries left after
+      entry_goes_on entry left walk after state gives =
+          let entered = entry_gives image sup directory block walk entry after gives in
+          let name : Named = name_by sup directory block entry entered.inode in
+          let is : IsEntry image sup volume root depth directory block entry = entry_is entry left walk state in
+          let front = in_front entry left walk state in
+          let next = walks_on image sup volume root depth directory block entry is walked walk state.level.walks front entered.inode has entered.once in
+          let P : Walk → Type 0 = λ w. InBlock block entries left w in
+          let B : List Named → Type 0 = λ rest. IsBehind image sup volume root directory.number (block.index * block_size sup + suc entry.at) rest in
+          subst P entered.counted.is
+          (record {
+            level = record {
+              walks = next.0;
+              more = state.level.more ++ name ∷ [];
+              grown = ap (λ list. list ++ name ∷ []) state.level.grown ∙ append_assoc start state.level.more (name ∷ []);
+              found = All-push (IsFound image sup volume root (suc depth)) state.level.more name state.level.found (found_name image sup volume root depth directory block entry is entered.inode entered.read);
+            };
+            bound = suc entry.at;
+            fits = let below = state.rise.1 in omega (arith, below);
+            behind =
+                subst B (sym next.1)
+                (All-push (λ n. n.directory ≡ directory.number → n.offset < block.index * block_size sup + suc entry.at) state.level.walks.rest name
+                (All-weaker (λ (n : Named). n.directory ≡ directory.number → n.offset < block.index * block_size sup + entry.at) (λ n. n.directory ≡ directory.number → n.offset < block.index * block_size sup + suc entry.at)
+                (λ n before same. let one = before same in omega (arith, one)) state.level.walks.rest front)
+                (λ same. omega arith));
+            rise = state.rise.2;
+            among = All-tail (Contains (leading_entries entries)) entry left state.among;
+          })
+
+      entry_stops : (e : Refusal) → StopsAt image (entry_name sup directory block) (InBlock block entries) e → StopsIn image sup volume e
+      entry_stops e stops =
+          inl (entry_refused image sup volume root depth directory block stops.item (entry_is stops.item stops.rest stops.state stops.holds) walked stops.state stops.holds.level.walks
+          (in_front stops.item stops.rest stops.state stops.holds) e stops.is)
+
+    -- in front of some blocks
+    record AtBlocks (pieces : List Piece) (left : List Block) (walk : Walk) : Type 0 where
+      level : IsLevel depth walked start walk.names
+      first : ℕ
+      are : AreBlocks sup pieces first left
+      many : first + length left ≤ block_count sup directory.inode.size
+      behind : IsBehind image sup volume root directory.number (first * block_size sup) level.walks.rest
+
+    module _ (pieces : List Piece) (places : (index : ℕ) → index < block_count sup directory.inode.size → place_through pieces (index * block_size sup) ≡ byte_place image sup (content_stream sup directory.inode) (index * block_size sup)) where
+      block_there : (block : Block) (left : List Block) (walk : Walk) → AtBlocks pieces (block ∷ left) walk → HasBlock image sup directory.inode block.index block.at
+      block_there block left walk state =
+          let many = state.many in
+          let below : state.first < block_count sup directory.inode.size = omega (arith, many) in
+          let P : ℕ → Type 0 = λ index. HasBlock image sup directory.inode index block.at in
+          subst P (sym state.are.0) (record { below = below; there = sym (places state.first below) ∙ state.are.1 })
+
+      in_block : (block : Block) (left : List Block) (walk : Walk) (entries : List Entry) → AtBlocks pieces (block ∷ left) walk
+          → entries_of sup.order (block_bytes image sup directory.inode block.index block.at) ≡ Ok entries → InBlock block entries (leading_entries entries) walk
+      in_block block left walk entries state read = record {
+        level = state.level;
+        bound = 0;
+        fits = omega arith;
+        behind =
+            let index = state.are.0 in
+            let same : state.first * block_size sup ≡ block.index * block_size sup + 0 = ap (λ n. n * block_size sup) (sym index) ∙ plus_none (block.index * block_size sup) in
+            let P : ℕ → Type 0 = λ offset. IsBehind image sup volume root directory.number offset state.level.walks.rest in
+            subst P same state.behind;
+        rise = wider (length (block_bytes image sup directory.inode block.index block.at)) (block_size sup) 0 (leading_entries entries) (block_fits image sup sound directory.inode block.index block.at)
+            (leading_rise sup.order (block_bytes image sup directory.inode block.index block.at) entries read);
+        among = All-contains_itself (leading_entries entries);
+      }
+        where
+          plus_none : (n : ℕ) → n ≡ n + 0
+          plus_none n = omega arith
+
+      leading_gives : (at : ℕ) (read : Result (List Entry) ℕ) (leads : List Entry) → leading at read ≡ Ok leads → (entries : List Entry) × (read ≡ Ok entries) × (leading_entries entries ≡ leads)
+      leading_gives at (Ok entries) leads is = (entries, refl, same_value {E = Refusal} (leading_entries entries) leads is)
+      leading_gives at (Err place) leads is = absurd cc
+
+      leading_refuses : (at : ℕ) (read : Result (List Entry) ℕ) (e : Refusal) → leading at read ≡ Err e → (place : ℕ) × (read ≡ Err place) × (Damaged DirEntry (at + place) ≡ e)
+      leading_refuses at (Ok entries) e is = absurd cc
+      leading_refuses at (Err place) e is = (place, refl, same_error {X = List Entry} (Damaged DirEntry (at + place)) e is)
+
+      block_goes_on : (block : Block) (left : List Block) (walk after : Walk) → AtBlocks pieces (block ∷ left) walk → result_of image (block_names sup directory walk block) ≡ Ok after → AtBlocks pieces left after
+      unfolding block_names
+      block_goes_on block left walk after state gives =
+          let bytes : List ℕ = block_bytes image sup directory.inode block.index block.at in
+          let step = given_gives image (leading block.at (entries_of sup.order bytes)) (λ leads. through (entry_name sup directory block) walk leads) after gives in
+          let entries = leading_gives block.at (entries_of sup.order bytes) step.0 step.1 in
+          let G : List Entry → Type 0 = λ leads. result_of image (through (entry_name sup directory block) walk leads) ≡ Ok after in
+          let there = block_there block left walk state in
+          let end = through_keeps image (entry_name sup directory block) (InBlock block entries.0) (entry_goes_on block entries.0 there entries.1) (leading_entries entries.0) walk after
+          (in_block block left walk entries.0 state entries.1) (subst G (sym entries.2) step.2) in
+          record {
+            level = end.level;
+            first = suc state.first;
+            are = state.are.2;
+            many = let many = state.many in omega (arith, many);
+            behind =
+                let index = state.are.0 in
+                let next : suc state.first * block_size sup ≡ block.index * block_size sup + block_size sup = ap (λ n. suc n * block_size sup) (sym index) ∙ one_more block.index (block_size sup) in
+                let fits = end.fits in
+                All-weaker (λ (n : Named). n.directory ≡ directory.number → n.offset < block.index * block_size sup + end.bound) (λ n. n.directory ≡ directory.number → n.offset < suc state.first * block_size sup)
+                (λ n before same. let one = before same in omega (arith, one, next, fits)) end.level.walks.rest end.behind;
+          }
+        where
+          one_more : (n unit : ℕ) → suc n * unit ≡ n * unit + unit
+          one_more n unit = omega arith
+
+      block_stops : HasSoundInode image sup directory.number directory.inode → (e : Refusal) → StopsAt image (block_names sup directory) (AtBlocks pieces) e → StopsIn image sup volume e
+      unfolding block_names
+      block_stops has_inode e stops =
+          let block : Block = stops.item in
+          let bytes : List ℕ = block_bytes image sup directory.inode block.index block.at in
+          let there = block_there block stops.rest stops.state stops.holds in
+          ⊎_elim
+          (λ bad.
+          let place = leading_refuses block.at (entries_of sup.order bytes) e bad in
+          inl (subst (IsWrongIn image sup volume) place.2 (BadEntry directory.number block.index block.at place.0 directory.inode has_inode good there place.1)))
+          (λ read.
+          let entries = leading_gives block.at (entries_of sup.order bytes) read.0 read.1 in
+          let G : List Entry → Type 0 = λ leads. result_of image (through (entry_name sup directory block) stops.state leads) ≡ Err e in
+          entry_stops block entries.0 there entries.1 e
+          (through_stops_at image (entry_name sup directory block) (InBlock block entries.0) (entry_goes_on block entries.0 there entries.1) (leading_entries entries.0) stops.state e
+          (in_block block stops.rest stops.state entries.0 stops.holds entries.1) (subst G (sym entries.2) read.2)))
+          (given_refuses image (leading block.at (entries_of sup.order bytes)) (λ leads. through (entry_name sup directory block) stops.state leads) e stops.is)
+
+  -- ---- over the directories of a depth
+
+  -- in front of some directories
+  pub record AtDirectories (depth : ℕ) (start : List Named) (left : List Named) (walk : Walk) : Type 0 where
+    pub walked : List ℕ
+    pub level : IsLevel depth walked start walk.names
+    pub known : (n : ℕ) → Contains walked n → IsKnown n start
+    pub fresh : AreFresh walked left
+    pub found : All (IsFound image sup volume root depth) left
+    pub are : All (λ name. names_directory name ≡ true) left
+    pub in_start : All (Contains start) left
+
+  sound_inode_of : (depth : ℕ) (name : Named) → IsFound image sup volume root depth name → HasSoundInode image sup name.number name.inode
+  sound_inode_of depth name found =
+      let named = named_gives image sup volume name.number found.place name.inode found.read in
+      record {
+        has = record { place = found.place; depth = depth; path = name.path; reached = found.reached; inside = named.0; is = (named_is image sup volume name.number found.place name.inode found.read).is };
+        read = named.1;
+      }
+
+  module _ (depth : ℕ) (start : List Named) (directory : Named) (left : List Named) (walk : Walk) (state : AtDirectories depth start (directory ∷ left) walk) where
+    of : IsFound image sup volume root depth directory
+    of = All-head (IsFound image sup volume root depth) directory left state.found
+
+    is_one : is_directory directory.inode ≡ true
+    is_one = All-head (λ (name : Named). names_directory name ≡ true) directory left state.are
+
+    at_blocks : (laid : Laid) (blocks : List Block) (good : IsGoodDirectory image sup directory.inode) → directory_blocks sup directory.inode laid.pieces ≡ Ok blocks
+        → AtBlocks depth directory of good (directory.number ∷ state.walked) (in_head directory.number state.walked) start laid.pieces blocks (with_runs walk (runs_of laid))
+    at_blocks laid blocks good are =
+        let all = blocks_are sup directory.inode laid.pieces blocks are in
+        let many = all.1 in
+        let walks = state.level.walks in
+        record {
+          level = record {
+            walks = record {
+              rest = walks.rest;
+              whole = walks.whole;
+              given = walks.given;
+              apart = walks.apart;
+              once = walks.once;
+              from = All-weaker (λ (name : Named). Contains state.walked name.directory) (λ name. Contains (directory.number ∷ state.walked) name.directory) (λ name has. in_tail directory.number name.directory state.walked has) walks.rest walks.from;
+            };
+            more = state.level.more;
+            grown = state.level.grown;
+            found = state.level.found;
+          };
+          first = 0;
+          are = all.0;
+          many = omega (arith, many);
+          behind =
+              All-weaker (λ (name : Named). Contains state.walked name.directory) (λ name. name.directory ≡ directory.number → name.offset < 0 * block_size sup)
+              (λ name has same. let P : ℕ → Type 0 = λ n. Contains state.walked n in absurd (state.fresh.0 (subst P same has)))
+              walks.rest walks.from;
+        }
+
+    directory_goes_on : (after : Walk) → result_of image (directory_names sup walk directory) ≡ Ok after → AtDirectories depth start left after
+    unfolding directory_names
+    directory_goes_on after gives =
+        let inode : Inode = directory.inode in
+        let whole = check_gives image (inode.size % 512 == 0) (Damaged DirSize (size_place sup inode)) _ after gives in
+        let laid = bind_gives image (stream_blocks sup (content_stream sup inode) walk.runs) (λ laid. given (directory_blocks sup inode laid.pieces) >>= (λ blocks. through (block_names sup directory) (with_runs walk (runs_of laid)) blocks)) after whole.1 in
+        let blocks = given_gives image (directory_blocks sup inode laid.0.pieces) (λ blocks. through (block_names sup directory) (with_runs walk (runs_of laid.0)) blocks) after laid.2 in
+        let has = sound_inode_of depth directory of in
+        let good = good_of image sup sound directory.number inode walk.runs laid.0 blocks.0 has.read is_one ((Decides-eqb (inode.size % 512) 0).0 whole.0) laid.1 blocks.1 in
+        let end = through_keeps image (block_names sup directory) (AtBlocks depth directory of good (directory.number ∷ state.walked) (in_head directory.number state.walked) start laid.0.pieces)
+        (block_goes_on depth directory of good (directory.number ∷ state.walked) (in_head directory.number state.walked) start laid.0.pieces (pieces_place image sup sound directory.number inode walk.runs laid.0 has.read laid.1))
+        blocks.0 (with_runs walk (runs_of laid.0)) after (at_blocks laid.0 blocks.0 good blocks.1) blocks.2 in
+        record {
+          walked = directory.number ∷ state.walked;
+          level = end.level;
+          known = λ n among.
+              ⊎_elim
+              (λ same. record { name = directory; among = All-head (Contains start) directory left state.in_start; is = same })
+              (λ before. state.known n before)
+              (in_cases directory.number n state.walked among);
+          fresh = state.fresh.1;
+          found = All-tail (IsFound image sup volume root depth) directory left state.found;
+          are = All-tail (λ (name : Named). names_directory name ≡ true) directory left state.are;
+          in_start = All-tail (Contains start) directory left state.in_start;
+        }
+
+    stream_wrong : (e : Refusal) → StopsStream image sup (content_stream sup directory.inode) e → StopsIn image sup volume e
+    stream_wrong e (AtPointer place bad) =
+        inl (BadPointer directory.number directory.inode (content_part sup directory.inode) place (sound_inode_of depth directory of) (content_section sup directory.inode is_one) bad)
+    stream_wrong e AtRuns = inr refl
+
+    directory_stops : (e : Refusal) → result_of image (directory_names sup walk directory) ≡ Err e → StopsIn image sup volume e
+    unfolding directory_names
+    directory_stops e is =
+        let inode : Inode = directory.inode in
+        let has = sound_inode_of depth directory of in
+        let pointers : HasPointers sup = has_pointers sup (is_sound sup sound) in
+        let rest : Laid → Ask Refusal Walk = λ laid. given (directory_blocks sup inode laid.pieces) >>= (λ blocks. through (block_names sup directory) (with_runs walk (runs_of laid)) blocks) in
+        ⊎_elim
+        (λ odd. inl (subst (IsWrongIn image sup volume) odd.1 (OtherSize directory.number inode has is_one (λ same. both_ways (inode.size % 512 == 0) ((Decides-eqb (inode.size % 512) 0).1 same) odd.0))))
+        (λ whole. ⊎_elim
+        (λ unlaid. stream_wrong e (stream_stops image sup (content_stream sup inode) pointers walk.runs e unlaid))
+        (λ laid. ⊎_elim
+        (λ no_blocks.
+        let hole = hole_of sup inode laid.0.pieces e no_blocks in
+        inl (subst (IsWrongIn image sup volume) hole.3
+        (InHole directory.number inode has is_one (stream_sound image sup (content_stream sup inode) pointers walk.runs laid.0 laid.1)
+        (record { index = hole.0; below = hole.1; none = sym (pieces_place image sup sound directory.number inode walk.runs laid.0 has.read laid.1 hole.0 hole.1) ∙ hole.2 }))))
+        (λ blocks.
+        let good = good_of image sup sound directory.number inode walk.runs laid.0 blocks.0 has.read is_one ((Decides-eqb (inode.size % 512) 0).0 whole.0) laid.1 blocks.1 in
+        let places = pieces_place image sup sound directory.number inode walk.runs laid.0 has.read laid.1 in
+        block_stops depth directory of good (directory.number ∷ state.walked) (in_head directory.number state.walked) start laid.0.pieces places has e
+        (through_stops_at image (block_names sup directory) (AtBlocks depth directory of good (directory.number ∷ state.walked) (in_head directory.number state.walked) start laid.0.pieces)
+        (block_goes_on depth directory of good (directory.number ∷ state.walked) (in_head directory.number state.walked) start laid.0.pieces places)
+        blocks.0 (with_runs walk (runs_of laid.0)) e (at_blocks laid.0 blocks.0 good blocks.1) blocks.2))
+        (given_refuses image (directory_blocks sup inode laid.0.pieces) (λ blocks. through (block_names sup directory) (with_runs walk (runs_of laid.0)) blocks) e laid.2))
+        (bind_refuses image (stream_blocks sup (content_stream sup inode) walk.runs) rest e whole.1))
+        (check_refuses image (inode.size % 512 == 0) (Damaged DirSize (size_place sup inode)) (λ x. stream_blocks sup (content_stream sup inode) walk.runs >>= rest) e is)
+
+  -- ---- depth by depth
+
+  -- in front of the directories of a depth
+  pub record IsAtDepth (depth : ℕ) (names directories : List Named) : Type 0 where
+    pub walked : List ℕ
+    pub walks : IsWalk image sup volume root walked names
+    pub known : (n : ℕ) → Contains walked n → IsKnown n names
+    pub fresh : AreFresh walked directories
+    pub found : All (IsFound image sup volume root depth) directories
+    pub are : All (λ name. names_directory name ≡ true) directories
+    pub in_names : All (Contains names) directories
+
+  at_directories : (depth : ℕ) (walk : Walk) (directories : List Named) → IsAtDepth depth walk.names directories → AtDirectories depth walk.names directories walk
+  at_directories depth walk directories state = record {
+    walked = state.walked;
+    level = record { walks = state.walks; more = []; grown = sym (append-nil walk.names); found = All-nil (IsFound image sup volume root (suc depth)) };
+    known = state.known;
+    fresh = state.fresh;
+    found = state.found;
+    are = state.are;
+    in_start = state.in_names;
+  }
+
+  deeper : (depth : ℕ) (walk after : Walk) → AtDirectories depth walk.names [] after → IsAtDepth (suc depth) after.names (directories_behind (length walk.names) after.names)
+  deeper depth walk after state =
+      let level = state.level in
+      let more : List Named = level.more in
+      let behind : directories_behind (length walk.names) after.names ≡ filter names_directory more =
+      ap (λ names. filter names_directory (drop (length walk.names) names)) level.grown ∙ ap (filter names_directory) (dropped walk.names more) in
+      let P : List Named → Type 0 = λ names. AreOnce (λ n. ⊥) names in
+      let once : AreOnce (λ n. ⊥ ⊎ IsKnown n walk.names) more = once_behind (λ n. ⊥) walk.names more (subst P level.grown level.walks.once) in
+      let K : List Named → Type 0 = λ directories. IsAtDepth (suc depth) after.names directories in
+      let N : List Named → Type 0 = λ names. All (Contains names) (filter names_directory more) in
+      let in_more : All (Contains (walk.names ++ more)) more = All-weaker (Contains more) (Contains (walk.names ++ more)) (λ name has. Contains-append_right walk.names more name has) more (All-contains_itself more) in
+      subst K (sym behind)
+      (record {
+        walked = state.walked;
+        walks = level.walks;
+        known = λ n has. let M : List Named → Type 0 = λ names. IsKnown n names in subst M (sym level.grown) (known_more n walk.names more (state.known n has));
+        fresh = fresh_of (λ n. ⊥ ⊎ IsKnown n walk.names) state.walked more once (λ n has. inr (state.known n has));
+        found = All-filter names_directory (IsFound image sup volume root (suc depth)) more level.found;
+        are = filter_passes names_directory more;
+        in_names = subst N (sym level.grown) (All-filter names_directory (Contains (walk.names ++ more)) more in_more);
+      })
+
+  depth_goes_on : (depth : ℕ) (walk after : Walk) (directories : List Named) → IsAtDepth depth walk.names directories → result_of image (through (directory_names sup) walk directories) ≡ Ok after
+      → IsAtDepth (suc depth) after.names (directories_behind (length walk.names) after.names)
+  depth_goes_on depth walk after directories state gives =
+      deeper depth walk after
+      (through_keeps image (directory_names sup) (AtDirectories depth walk.names) (λ directory left w next at is. directory_goes_on depth walk.names directory left w at next is) directories walk after (at_directories depth walk directories state) gives)
+
+  below_stops : (depths depth : ℕ) (walk : Walk) (directories : List Named) (e : Refusal) → depth + depths ≡ suc deepest → IsAtDepth depth walk.names directories
+      → result_of image (names_below depths sup walk directories) ≡ Err e → StopsIn image sup volume e
+  unfolding names_below
+  below_stops depths depth walk [] e total state is = absurd cc
+  below_stops zero depth walk (directory ∷ directories) e total state is =
+      let found = All-head (IsFound image sup volume root depth) directory directories state.found in
+      let same = (named_is image sup volume directory.number found.place directory.inode found.read).is in
+      let P : Inode → Type 0 = λ inode. is_directory inode ≡ true in
+      inl (subst (IsWrongIn image sup volume) (same_error {X = Walk} (Limit Depth deepest) e is)
+      (Deep directory.number found.place depth directory.path found.reached (subst P (sym same) (All-head (λ (name : Named). names_directory name ≡ true) directory directories state.are)) (omega (arith, total))))
+  below_stops (suc depths) depth walk (directory ∷ directories) e total state is =
+      ⊎_elim
+      (λ here.
+      let stops = through_stops_at image (directory_names sup) (AtDirectories depth walk.names) (λ one left w next at gives. directory_goes_on depth walk.names one left w at next gives) (directory ∷ directories) walk e
+      (at_directories depth walk (directory ∷ directories) state) here in
+      directory_stops depth walk.names stops.item stops.rest stops.state stops.holds e stops.is)
+      (λ later.
+      below_stops depths (suc depth) later.0 (directories_behind (length walk.names) later.0.names) e (omega (arith, total)) (depth_goes_on depth walk later.0 (directory ∷ directories) state later.1) later.2)
+      (bind_refuses image (through (directory_names sup) walk (directory ∷ directories)) (λ after. names_below depths sup after (directories_behind (length walk.names) after.names)) e is)
