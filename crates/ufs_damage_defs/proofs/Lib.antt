@@ -7,3 +7,4 @@ pub mod DirectoryLaws
 pub mod NameFacts
 pub mod NameSteps
 pub mod NameDamage
+pub mod FileDamage

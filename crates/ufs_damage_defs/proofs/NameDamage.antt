@@ -5,7 +5,7 @@ use Rattle.std.proofs.Common.{ap, sym, ◌∙◌, subst, arith, inl, inr, ⊎_el
 use Rattle.std.proofs.lemmas.Bool.Decides.{Decides-eqb}
 use Rattle.std.proofs.lemmas.Bool.{cases_eq}
 use Rattle.std.proofs.lemmas.List.{length-take}
-use Rattle.std.proofs.lemmas.List.Elements.{All-push, All-head, All-tail, All-cons, All-nil, All-weaker, All-filter, All-contains_itself, Contains-append_left, Contains-append_right, filter_passes}
+use Rattle.std.proofs.lemmas.List.Elements.{All-push, All-head, All-tail, All-cons, All-nil, All-weaker, All-filter, All-append, All-contains_itself, Contains-append_left, Contains-append_right, filter_passes}
 use Rattle.bytes_defs.specs.Bytes.{part}
 use Rattle.image_defs.specs.Ask.{Ask, Done, Stop, result_of, look, check, given, ◌>>=◌, ◌>>◌}
 use Rattle.image_defs.specs.Through.{through}
@@ -43,7 +43,7 @@ use Rattle.ufs_damage_defs.proofs.StreamDamage.{StopsStream, AtPointer, AtRuns}
 use Rattle.ufs_damage_defs.proofs.StreamStops.{stream_stops, stream_sound}
 use Rattle.ufs_damage_defs.proofs.InodeDamage.{IsWrongIn, both_ways, named_gives, named_is, named_refused}
 use Rattle.ufs_damage_defs.proofs.DirectoryLaws.{AreRising, leading_rise, AreBlocks, blocks_are, hole_of, block_among}
-use Rattle.ufs_damage_defs.proofs.NameFacts.{in_cases, in_head, in_tail, IsKnown, known_more, AreOnce, once_behind, AreFresh, fresh_of, dropped}
+use Rattle.ufs_damage_defs.proofs.NameFacts.{in_none, in_cases, in_head, in_tail, IsKnown, known_more, AreOnce, once_behind, AreFresh, fresh_of, dropped}
 use Rattle.ufs_damage_defs.proofs.NameSteps.{IsFound, IsGivenBySome, IsWalk, IsBehind, IsEntry, IsEntered, entry_gives, given as given_name, found as found_name, walks_on, entry_refused}
 
 -- ---- a directory's content
@@ -399,6 +399,10 @@ module _ (image : List ℕ) (sup : Super) (volume : ℕ) (root : Inode) (sound :
 
   -- ---- depth by depth
 
+  -- a name that is reached at some depth
+  abbrev pub IsSomewhere : Named → Type 0
+  IsSomewhere name = (depth : ℕ) × IsFound image sup volume root depth name
+
   -- in front of the directories of a depth
   pub record IsAtDepth (depth : ℕ) (names directories : List Named) : Type 0 where
     pub walked : List ℕ
@@ -408,6 +412,7 @@ module _ (image : List ℕ) (sup : Super) (volume : ℕ) (root : Inode) (sound :
     pub found : All (IsFound image sup volume root depth) directories
     pub are : All (λ name. names_directory name ≡ true) directories
     pub in_names : All (Contains names) directories
+    pub all : All IsSomewhere names
 
   at_directories : (depth : ℕ) (walk : Walk) (directories : List Named) → IsAtDepth depth walk.names directories → AtDirectories depth walk.names directories walk
   at_directories depth walk directories state = record {
@@ -420,8 +425,8 @@ module _ (image : List ℕ) (sup : Super) (volume : ℕ) (root : Inode) (sound :
     in_start = state.in_names;
   }
 
-  deeper : (depth : ℕ) (walk after : Walk) → AtDirectories depth walk.names [] after → IsAtDepth (suc depth) after.names (directories_behind (length walk.names) after.names)
-  deeper depth walk after state =
+  deeper : (depth : ℕ) (walk after : Walk) → All IsSomewhere walk.names → AtDirectories depth walk.names [] after → IsAtDepth (suc depth) after.names (directories_behind (length walk.names) after.names)
+  deeper depth walk after all state =
       let level = state.level in
       let more : List Named = level.more in
       let behind : directories_behind (length walk.names) after.names ≡ filter names_directory more =
@@ -440,12 +445,15 @@ module _ (image : List ℕ) (sup : Super) (volume : ℕ) (root : Inode) (sound :
         found = All-filter names_directory (IsFound image sup volume root (suc depth)) more level.found;
         are = filter_passes names_directory more;
         in_names = subst N (sym level.grown) (All-filter names_directory (Contains (walk.names ++ more)) more in_more);
+        all =
+            let S : List Named → Type 0 = λ names. All IsSomewhere names in
+            subst S (sym level.grown) (All-append IsSomewhere walk.names more all (All-weaker (IsFound image sup volume root (suc depth)) IsSomewhere (λ name found. (suc depth, found)) more level.found));
       })
 
   depth_goes_on : (depth : ℕ) (walk after : Walk) (directories : List Named) → IsAtDepth depth walk.names directories → result_of image (through (directory_names sup) walk directories) ≡ Ok after
       → IsAtDepth (suc depth) after.names (directories_behind (length walk.names) after.names)
   depth_goes_on depth walk after directories state gives =
-      deeper depth walk after
+      deeper depth walk after state.all
       (through_keeps image (directory_names sup) (AtDirectories depth walk.names) (λ directory left w next at is. directory_goes_on depth walk.names directory left w at next is) directories walk after (at_directories depth walk directories state) gives)
 
   below_stops : (depths depth : ℕ) (walk : Walk) (directories : List Named) (e : Refusal) → depth + depths ≡ suc deepest → IsAtDepth depth walk.names directories
@@ -467,3 +475,95 @@ module _ (image : List ℕ) (sup : Super) (volume : ℕ) (root : Inode) (sound :
       (λ later.
       below_stops depths (suc depth) later.0 (directories_behind (length walk.names) later.0.names) e (omega (arith, total)) (depth_goes_on depth walk later.0 (directory ∷ directories) state later.1) later.2)
       (bind_refuses image (through (directory_names sup) walk (directory ∷ directories)) (λ after. names_below depths sup after (directories_behind (length walk.names) after.names)) e is)
+
+  -- where the walk ends, it has names of all depths
+  below_gives : (depths depth : ℕ) (walk after : Walk) (directories : List Named) → IsAtDepth depth walk.names directories → result_of image (names_below depths sup walk directories) ≡ Ok after
+      → (last : ℕ) × IsAtDepth last after.names []
+  unfolding names_below
+  below_gives depths depth walk after [] state gives = let P : Walk → Type 0 = λ w. (last : ℕ) × IsAtDepth last w.names [] in subst P (same_value {E = Refusal} walk after gives) (depth, state)
+  below_gives zero depth walk after (directory ∷ directories) state gives = absurd cc
+  below_gives (suc depths) depth walk after (directory ∷ directories) state gives =
+      let step = bind_gives image (through (directory_names sup) walk (directory ∷ directories)) (λ next. names_below depths sup next (directories_behind (length walk.names) next.names)) after gives in
+      below_gives depths (suc depth) step.0 after (directories_behind (length walk.names) step.0.names) (depth_goes_on depth walk step.0 (directory ∷ directories) state step.1) step.2
+
+  -- in front of the root
+  at_root : result_of image (inode_named sup 2 (super_place sup)) ≡ Ok root → is_directory root ≡ true → IsAtDepth 0 (root_name root ∷ []) (root_name root ∷ [])
+  at_root read is =
+      let found : IsFound image sup volume root 0 (root_name root) = record { place = super_place sup; reached = Root; read = read } in
+      record {
+        walked = [];
+        walks = record {
+          rest = [];
+          whole = refl;
+          given = All-nil (IsGivenBySome image sup volume root);
+          apart = λ i j d before inside. absurd (omega (arith, inside));
+          once = ((λ one never. never), tt);
+          from = All-nil (λ (name : Named). Contains [] name.directory);
+        };
+        known = λ n has. absurd (in_none n has);
+        fresh = ((λ has. in_none 2 has), tt);
+        found = All-cons (IsFound image sup volume root 0) (root_name root) [] found (All-nil (IsFound image sup volume root 0));
+        are = All-cons (λ (name : Named). names_directory name ≡ true) (root_name root) [] is (All-nil (λ (name : Named). names_directory name ≡ true));
+        in_names = All-cons (Contains (root_name root ∷ [])) (root_name root) [] (in_head (root_name root) []) (All-nil (Contains (root_name root ∷ [])));
+        all = All-cons IsSomewhere (root_name root) [] (0, found) (All-nil IsSomewhere);
+      }
+
+-- ---- the names of a volume
+
+-- the root of a volume is read, and is a directory
+pub record HasRoot (image : List ℕ) (sup : Super) (root : Inode) : Type 0 where
+  pub read : result_of image (inode_named sup 2 (super_place sup)) ≡ Ok root
+  pub directory : is_directory root ≡ true
+
+module _ (image : List ℕ) (sup : Super) (volume : ℕ) (sound : wrong_field sup ≡ None) where
+  root_gives : (root : Inode) → result_of image (root_inode sup) ≡ Ok root → HasRoot image sup root
+  unfolding root_inode
+  root_gives root gives =
+      let read = bind_gives image (inode_named sup 2 (super_place sup)) (λ inode. check (is_directory inode) (Damaged RootKind inode.at) >>= (λ x. Done inode)) root gives in
+      let is = check_gives image (is_directory read.0) (Damaged RootKind read.0.at) (λ x. Done read.0) root read.2 in
+      let P : Inode → Type 0 = λ inode. HasRoot image sup inode in
+      subst P (same_value {E = Refusal} read.0 root is.1) (record { read = read.1; directory = is.0 })
+
+  root_stops : (e : Refusal) → result_of image (root_inode sup) ≡ Err e → IsWrongIn image sup volume e
+  unfolding root_inode
+  root_stops e is =
+      ⊎_elim
+      (λ unread. named_refused image sup volume 2 (super_place sup) 0 (47 ∷ []) e Root unread)
+      (λ read. ⊎_elim
+      (λ file.
+      let named = named_gives image sup volume 2 (super_place sup) read.0 read.1 in
+      subst (IsWrongIn image sup volume) file.1
+      (NoDirectory read.0 (record { place = super_place sup; depth = 0; path = 47 ∷ []; reached = Root; inside = named.0; is = (named_is image sup volume 2 (super_place sup) read.0 read.1).is }) file.0))
+      (λ directory. absurd (never read.0 directory.1))
+      (check_refuses image (is_directory read.0) (Damaged RootKind read.0.at) (λ x. Done read.0) e read.2))
+      (bind_refuses image (inode_named sup 2 (super_place sup)) (λ inode. check (is_directory inode) (Damaged RootKind inode.at) >>= (λ x. Done inode)) e is)
+    where
+      never : (inode : Inode) → (let r : Result Inode Refusal = Ok inode in r ≡ Err e) → ⊥
+      never inode same = absurd cc
+
+  pub names_stop : (e : Refusal) → result_of image (volume_names sup) ≡ Err e → StopsIn image sup volume e
+  unfolding volume_names
+  names_stop e is =
+      ⊎_elim
+      (λ no_root. inl (root_stops e no_root))
+      (λ root.
+      let has = root_gives root.0 root.1 in
+      let walk : Walk = record { names = root_name root.0 ∷ []; runs = 0 } in
+      below_stops image sup volume root.0 sound (suc deepest) 0 walk (root_name root.0 ∷ []) e (omega arith) (at_root image sup volume root.0 sound has.read has.directory) root.2)
+      (bind_refuses image (root_inode sup) (names_from sup) e is)
+
+  -- the names that a walk found
+  pub record HasNames (walk : Walk) : Type 0 where
+    pub root : Inode
+    pub has : HasRoot image sup root
+    pub depth : ℕ
+    pub at : IsAtDepth image sup volume root sound depth walk.names []
+
+  pub names_give : (walk : Walk) → result_of image (volume_names sup) ≡ Ok walk → HasNames walk
+  unfolding volume_names
+  names_give walk gives =
+      let root = bind_gives image (root_inode sup) (names_from sup) walk gives in
+      let has = root_gives root.0 root.1 in
+      let start : Walk = record { names = root_name root.0 ∷ []; runs = 0 } in
+      let end = below_gives image sup volume root.0 sound (suc deepest) 0 start walk (root_name root.0 ∷ []) (at_root image sup volume root.0 sound has.read has.directory) root.2 in
+      record { root = root.0; has = has; depth = end.0; at = end.1 }

@@ -15,7 +15,7 @@ in_head x xs = (0, omega arith, refl)
 pub in_tail : {X : Type 0} (x y : X) (xs : List X) → Contains xs y → Contains (x ∷ xs) y
 in_tail x y xs has = (suc has.0, (let inside = has.1 in omega (arith, inside)), has.2)
 
-in_none : {X : Type 0} (x : X) → Contains [] x → ⊥
+pub in_none : {X : Type 0} (x : X) → Contains [] x → ⊥
 in_none x has = let inside = has.1 in omega (arith, inside)
 
 pub in_cases : {X : Type 0} (x y : X) (xs : List X) → Contains (x ∷ xs) y → (x ≡ y) ⊎ Contains xs y
