@@ -8,3 +8,4 @@ pub mod NameFacts
 pub mod NameSteps
 pub mod NameDamage
 pub mod FileDamage
+pub mod NameClosure

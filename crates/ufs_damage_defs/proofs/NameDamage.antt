@@ -450,7 +450,7 @@ module _ (image : List ℕ) (sup : Super) (volume : ℕ) (root : Inode) (sound :
             subst S (sym level.grown) (All-append IsSomewhere walk.names more all (All-weaker (IsFound image sup volume root (suc depth)) IsSomewhere (λ name found. (suc depth, found)) more level.found));
       })
 
-  depth_goes_on : (depth : ℕ) (walk after : Walk) (directories : List Named) → IsAtDepth depth walk.names directories → result_of image (through (directory_names sup) walk directories) ≡ Ok after
+  pub depth_goes_on : (depth : ℕ) (walk after : Walk) (directories : List Named) → IsAtDepth depth walk.names directories → result_of image (through (directory_names sup) walk directories) ≡ Ok after
       → IsAtDepth (suc depth) after.names (directories_behind (length walk.names) after.names)
   depth_goes_on depth walk after directories state gives =
       deeper depth walk after state.all
@@ -487,7 +487,7 @@ module _ (image : List ℕ) (sup : Super) (volume : ℕ) (root : Inode) (sound :
       below_gives depths (suc depth) step.0 after (directories_behind (length walk.names) step.0.names) (depth_goes_on depth walk step.0 (directory ∷ directories) state step.1) step.2
 
   -- in front of the root
-  at_root : result_of image (inode_named sup 2 (super_place sup)) ≡ Ok root → is_directory root ≡ true → IsAtDepth 0 (root_name root ∷ []) (root_name root ∷ [])
+  pub at_root : result_of image (inode_named sup 2 (super_place sup)) ≡ Ok root → is_directory root ≡ true → IsAtDepth 0 (root_name root ∷ []) (root_name root ∷ [])
   at_root read is =
       let found : IsFound image sup volume root 0 (root_name root) = record { place = super_place sup; reached = Root; read = read } in
       record {
@@ -516,7 +516,7 @@ pub record HasRoot (image : List ℕ) (sup : Super) (root : Inode) : Type 0 wher
   pub directory : is_directory root ≡ true
 
 module _ (image : List ℕ) (sup : Super) (volume : ℕ) (sound : wrong_field sup ≡ None) where
-  root_gives : (root : Inode) → result_of image (root_inode sup) ≡ Ok root → HasRoot image sup root
+  pub root_gives : (root : Inode) → result_of image (root_inode sup) ≡ Ok root → HasRoot image sup root
   unfolding root_inode
   root_gives root gives =
       let read = bind_gives image (inode_named sup 2 (super_place sup)) (λ inode. check (is_directory inode) (Damaged RootKind inode.at) >>= (λ x. Done inode)) root gives in
