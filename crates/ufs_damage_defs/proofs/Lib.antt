@@ -9,3 +9,7 @@ pub mod NameSteps
 pub mod NameDamage
 pub mod FileDamage
 pub mod NameClosure
+pub mod Matching
+pub mod Refused
+pub mod Accepted
+pub mod VolumeDamage

@@ -261,7 +261,7 @@ module _ (image : List ℕ) (sup : Super) (volume : ℕ) (sound : wrong_field su
 
   module _ (root : Inode) where
     -- a directory that is reached is that of its name
-    same_inode : (name : Named) → IsSomewhere image sup volume root sound name → (number place : ℕ) (inode : Inode) → name.number ≡ number → result_of image (inode_named sup number place) ≡ Ok inode → name.inode ≡ inode
+    pub same_inode : (name : Named) → IsSomewhere image sup volume root sound name → (number place : ℕ) (inode : Inode) → name.number ≡ number → result_of image (inode_named sup number place) ≡ Ok inode → name.inode ≡ inode
     same_inode name found number place inode same read =
         let is = found.1 in
         let mine = (named_gives image sup volume name.number is.place name.inode is.read).1 in

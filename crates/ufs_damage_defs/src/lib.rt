@@ -11,3 +11,5 @@
 //! The promised laws of `laws`: what refuses a volume is wrong with it, nothing is wrong with one that has a tree, and one with
 //! which nothing is wrong has a tree.
 #![tactic(auto)]
+
+pub mod laws;
