@@ -1,7 +1,7 @@
 -- Nothing is wrong with a volume that is read.
-use Rattle.std.specs.Prelude.{◌≡◌, ◌⊎◌, ℕ, zero, suc, ◌+◌, ◌*◌, ◌%◌, ◌<◌, ◌≤◌, ◌==◌, Bool, true, false, not, ◌&&◌, nat_le, nat_lt, if◌then◌else◌, Option, Some, None, Result, Ok, Err, List, [], ◌∷◌, ◌++◌, length, map, refl}
-use Rattle.std.specs.List.{All, AllPairs, Contains, filter, sum_by}
-use Rattle.std.proofs.Common.{ap, sym, ◌∙◌, subst, arith, inl, inr, ⊎_elim}
+use Rattle.std.specs.Prelude.{◌≡◌, ℕ, suc, ◌+◌, ◌%◌, ◌<◌, ◌≤◌, Bool, true, false, not, ◌&&◌, nat_le, Some, None, Ok, Err, List, [], length, map, refl}
+use Rattle.std.specs.List.{All, Contains}
+use Rattle.std.proofs.Common.{ap, sym, ◌∙◌, subst, arith, ⊎_elim}
 use Rattle.std.proofs.lemmas.Bool.{leb-true, ltb-true, cases_eq}
 use Rattle.std.proofs.lemmas.List.Sums.{sum_by-cons}
 use Rattle.std.proofs.lemmas.List.Elements.{All-contains, All-weaker, filter_passes}
@@ -20,23 +20,22 @@ use Rattle.fault_defs.specs.declared.What.{What}
 use Rattle.fault_defs.specs.declared.Bound.{Bound}
 use Rattle.fault_defs.specs.declared.Bound.TheVariants.{Image, Runs}
 use Rattle.ufs_inode_defs.specs.Superblock.{wrong_field, super_place, volume_super, has_inode}
-use Rattle.ufs_inode_defs.specs.Inode.{stored_inode, is_directory, is_snapshot, inode_at, inode_named}
+use Rattle.ufs_inode_defs.specs.Inode.{stored_inode, is_directory, is_snapshot, inode_at}
 use Rattle.ufs_inode_defs.specs.Blocks.{most_runs}
 use Rattle.ufs_inode_defs.specs.declared.superblock.Super.{Super}
 use Rattle.ufs_inode_defs.specs.declared.inode.Inode.{Inode}
-use Rattle.ufs_inode_defs.proofs.InodeLaws.{IsSoundInode, IsRead, inode_read}
+use Rattle.ufs_inode_defs.proofs.InodeLaws.{IsSoundInode, inode_read}
 use Rattle.ufs_volume_defs.specs.Directory.{Entry, entries_of, leads_on, leading_entries, is_used, is_dot}
-use Rattle.ufs_volume_defs.specs.Names.{Named, Walk, path_bytes, names_directory, deepest, most_names, most_path_bytes, root_name, volume_names}
+use Rattle.ufs_volume_defs.specs.Names.{Named, Walk, path_bytes, names_directory, most_names, most_path_bytes, root_name, volume_names}
 use Rattle.ufs_volume_defs.specs.Files.{Filed, named_files, numbers_of}
 use Rattle.ufs_volume_defs.specs.Volume.{FoundVolume, files_below, volume_at}
-use Rattle.ufs_damage_defs.specs.Damage.{HasMagic, HasSuper, HasBlock, block_bytes, HasEntry, IsGoodDirectory, IsReached, Root, Through, IsGiven, AreApart, HasInode, HasSoundInode, IsFalseIn, NoDirectory, NoInode, Dead, TooLong, ExtendedTooLong, BadPointer, OtherSize, InHole, BadEntry, RootAgain, Twice, IsFalseAt, WrongField, FalseIn, IsUnsupportedIn, IsSnapshot, IsUnsupportedAt, UnsupportedIn, AreNames, CountsMore, OfDirectories, OfFiles, IsOverIn, LongPath, ManyNames, LongNames, Deep, ManyRuns, IsOver, LongImage, OverIn, IsWrong}
+use Rattle.ufs_damage_defs.specs.Damage.{HasSuper, HasBlock, block_bytes, HasEntry, IsGoodDirectory, IsReached, Root, Through, IsGiven, HasInode, IsFalseIn, NoDirectory, NoInode, Dead, TooLong, ExtendedTooLong, BadPointer, OtherSize, InHole, BadEntry, RootAgain, Twice, IsFalseAt, WrongField, FalseIn, IsUnsupportedIn, IsSnapshot, IsUnsupportedAt, UnsupportedIn, AreNames, OfDirectories, OfFiles, IsOverIn, LongPath, ManyNames, LongNames, Deep, ManyRuns, IsOver, LongImage, OverIn, IsWrong}
 use Rattle.ufs_damage_defs.proofs.Walks.{same_value, not_both}
 use Rattle.ufs_damage_defs.proofs.SuperDamage.{super_read, super_sound}
 use Rattle.ufs_damage_defs.proofs.InodeDamage.{both_ways, named_gives, named_is, sound_of, not_dead, not_long, not_extended_long}
-use Rattle.ufs_damage_defs.proofs.NameFacts.{in_none, in_cases, in_head, AreOnce, once_same}
-use Rattle.ufs_damage_defs.proofs.NameSteps.{IsFound, IsWalk}
-use Rattle.ufs_damage_defs.proofs.NameDamage.{IsSomewhere, HasRoot}
-use Rattle.ufs_damage_defs.proofs.NameClosure.{AreWithinLimits, IsNamedAt, HasNameOf, IsWalkedIn, HasEnded, HasAllNames, all_names, same_inode}
+use Rattle.ufs_damage_defs.proofs.NameFacts.{in_none, in_cases, in_head, once_same}
+use Rattle.ufs_damage_defs.proofs.NameDamage.{IsSomewhere}
+use Rattle.ufs_damage_defs.proofs.NameClosure.{IsNamedAt, IsWalkedIn, HasAllNames, all_names, same_inode}
 use Rattle.ufs_damage_defs.proofs.FileDamage.{number_among, files_sound}
 use Rattle.ufs_damage_defs.proofs.Matching.{HasMatch, fits}
 
@@ -55,7 +54,7 @@ reached_two image sup number place depth path Root = omega arith
 reached_two image sup number place depth path (Through from at d p directory offset pl entry reached read good has) = leads_used has.entries entry has.among
 
 module _ (image : List ℕ) (sup : Super) (volume : ℕ) (sound : wrong_field sup ≡ None) (walk : Walk) (filed : Filed)
-  (names_are : result_of image (volume_names sup) ≡ Ok walk) (files_are : result_of image (named_files sup volume walk.names) ≡ Ok filed) (all : HasAllNames image sup volume sound walk) where
+    (names_are : result_of image (volume_names sup) ≡ Ok walk) (files_are : result_of image (named_files sup volume walk.names) ≡ Ok filed) (all : HasAllNames image sup volume sound walk) where
   somewhere : (name : Named) → Contains walk.names name → IsSomewhere image sup volume all.root sound name
   somewhere name among = All-contains (IsSomewhere image sup volume all.root sound) walk.names name all.ended.at.all among
 

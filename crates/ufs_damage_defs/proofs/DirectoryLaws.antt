@@ -1,10 +1,9 @@
 -- The blocks of a directory and the entries in them stand in order.
-use Rattle.std.specs.Prelude.{◌≡◌, ℕ, zero, suc, ◌+◌, ◌-◌, ◌*◌, ◌%◌, ◌<◌, ◌≤◌, min, Bool, true, false, not, ◌&&◌, ◌||◌, ◌==◌, nat_le, nat_lt, if◌then◌else◌, Option, Some, None, Result, Ok, Err, List, [], ◌∷◌, ◌++◌, length, refl}
-use Rattle.std.specs.List.{All, Contains, filter}
-use Rattle.std.proofs.Common.{ap, sym, ◌∙◌, subst, arith, ⊎_elim}
+use Rattle.std.specs.Prelude.{◌≡◌, ℕ, zero, suc, ◌+◌, ◌*◌, ◌<◌, ◌≤◌, Bool, true, false, nat_le, if◌then◌else◌, Option, Some, None, Result, Ok, Err, List, [], ◌∷◌, length, refl}
+use Rattle.std.specs.List.{Contains, filter}
+use Rattle.std.proofs.Common.{ap, sym, ◌∙◌, subst, arith}
 use Rattle.std.proofs.lemmas.Bool.{leb-true, leb-false}
 use Rattle.std.proofs.lemmas.Bool.Decides.{nat_tests}
-use Rattle.std.proofs.lemmas.List.Elements.{All-cons, All-nil}
 use Rattle.bytes_defs.specs.declared.order.Order.{Order}
 use Rattle.image_defs.specs.Runs.{with_value, in_front_of, each_result}
 use Rattle.fault_defs.specs.declared.Refusal.{Refusal}
@@ -18,7 +17,7 @@ use Rattle.ufs_inode_defs.specs.Inode.{size_place}
 use Rattle.ufs_inode_defs.specs.Stream.{block_count}
 use Rattle.ufs_inode_defs.specs.declared.superblock.Super.{Super}
 use Rattle.ufs_inode_defs.specs.declared.inode.Inode.{Inode}
-use Rattle.ufs_volume_defs.specs.Directory.{Entry, is_entry, record_length, entry_of, with_entry, entries_within, entries_of, left_at, leads_on, leading_entries}
+use Rattle.ufs_volume_defs.specs.Directory.{Entry, is_entry, record_length, entry_of, entries_within, entries_of, leads_on, leading_entries}
 use Rattle.ufs_volume_defs.specs.Names.{Block, placed_block, directory_blocks}
 use Rattle.ufs_damage_defs.proofs.Walks.{same_value, same_error}
 

@@ -1,17 +1,15 @@
 -- What refuses the files of a volume is a pointer that leads out, or the limit on runs; where they are read, no pointer does.
-use Rattle.std.specs.Prelude.{◌≡◌, ◌⊎◌, ℕ, None, Result, Ok, Err, List, [], ◌∷◌, map, refl}
+use Rattle.std.specs.Prelude.{◌≡◌, ℕ, None, Result, Ok, Err, List, [], ◌∷◌, map, refl}
 use Rattle.std.specs.List.{All, Contains}
-use Rattle.std.proofs.Common.{ap, sym, ◌∙◌, subst, inl, inr, ⊎_elim}
+use Rattle.std.proofs.Common.{sym, ◌∙◌, subst, inl, inr, ⊎_elim}
 use Rattle.std.proofs.lemmas.List.Elements.{All-head, All-tail, All-contains, All-contains_itself}
 use Rattle.image_defs.specs.Ask.{Ask, Done, result_of, ◌>>=◌}
-use Rattle.image_defs.specs.Through.{through}
 use Rattle.image_defs.proofs.Looks.{bind_gives, bind_refuses}
-use Rattle.order_defs.specs.DistinctLaws.{HaveSameItems}
 use Rattle.order_defs.proofs.DistinctLaws.{rising_numbers_law}
 use Rattle.fault_defs.specs.declared.Refusal.{Refusal}
 use Rattle.ufs_inode_defs.specs.Superblock.{wrong_field}
 use Rattle.ufs_inode_defs.specs.Inode.{inode_at}
-use Rattle.ufs_inode_defs.specs.Blocks.{Laid, stream_blocks}
+use Rattle.ufs_inode_defs.specs.Blocks.{stream_blocks}
 use Rattle.ufs_inode_defs.specs.declared.superblock.Super.{Super}
 use Rattle.ufs_inode_defs.specs.declared.inode.Inode.{Inode}
 use Rattle.ufs_inode_defs.proofs.BlockLaw.{HasPointers}
@@ -20,13 +18,12 @@ use Rattle.ufs_volume_defs.specs.Names.{Named, Walk}
 use Rattle.ufs_volume_defs.specs.Files.{Section, sections_of, Parted, with_part, section_part, inode_parts, Filed, with_file, number_file, numbers_of, named_files}
 use Rattle.ufs_damage_defs.specs.StreamDamage.{HasBadPointer}
 use Rattle.ufs_damage_defs.specs.Damage.{HasSoundInode, BadPointer}
-use Rattle.ufs_damage_defs.proofs.Walks.{same_value, not_both, through_keeps, StopsAt, through_stops_at, Walks, through_walks}
+use Rattle.ufs_damage_defs.proofs.Walks.{same_value, not_both, through_stops_at, Walks, through_walks}
 use Rattle.ufs_damage_defs.proofs.StreamDamage.{StopsStream, AtPointer, AtRuns}
 use Rattle.ufs_damage_defs.proofs.StreamStops.{stream_stops, stream_sound}
 use Rattle.ufs_damage_defs.proofs.InodeDamage.{named_gives, named_is}
 use Rattle.ufs_damage_defs.proofs.NameFacts.{in_none, in_cases, in_head, in_tail, IsKnown}
-use Rattle.ufs_damage_defs.proofs.NameSteps.{IsFound}
-use Rattle.ufs_damage_defs.proofs.NameDamage.{StopsIn, IsSomewhere, IsAtDepth, HasNames}
+use Rattle.ufs_damage_defs.proofs.NameDamage.{StopsIn, IsSomewhere, HasNames}
 
 -- a number of a list of names is that of one of them
 known_of : (number : ℕ) (names : List Named) → Contains (map (λ name. name.number) names) number → IsKnown number names
@@ -146,10 +143,13 @@ module _ (image : List ℕ) (sup : Super) (volume : ℕ) (sound : wrong_field su
     stays = λ number s t grows holds. holds;
     steps = λ number filed after holds gives.
         let read = bind_gives image (inode_at sup number) (λ inode. inode_parts sup filed.runs inode >>= (λ parted. Done (with_file sup volume names filed number inode parted))) after gives in
-        let parted = bind_gives image (inode_parts sup filed.runs read.0) (λ parted. Done (with_file sup volume names filed number read.0 parted)) after read.2 in
-        (tt, tt, λ inode is.
-        let same : read.0 ≡ inode = same_value {E = Refusal} read.0 inode (sym read.1 ∙ is) in
-        subst AreSound same (parts_sound read.0 filed.runs parted.0 parted.1));
+        let parted = bind_gives image (inode_parts sup filed.runs read.0) (λ parted. Done (with_file sup volume names filed number read.0 parted)) after read.2 in (
+          tt,
+          tt,
+          λ inode is.
+              let same : read.0 ≡ inode = same_value {E = Refusal} read.0 inode (sym read.1 ∙ is) in
+              subst AreSound same (parts_sound read.0 filed.runs parted.0 parted.1),
+        );
   }
 
   pub files_sound : (names : List Named) (filed : Filed) → result_of image (named_files sup volume names) ≡ Ok filed → (number : ℕ) (inode : Inode) (section : Section) (place : ℕ) → Contains (numbers_of names) number

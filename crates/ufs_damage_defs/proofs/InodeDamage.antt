@@ -1,21 +1,21 @@
 -- What refuses an inode that is reached is wrong with it, and nothing is wrong with one that is read.
-use Rattle.std.specs.Prelude.{◌≡◌, ◌⊎◌, ℕ, ◌+◌, ◌*◌, ◌<◌, ◌==◌, Bool, true, false, not, ◌||◌, nat_lt, Result, Ok, Err, List, [], ◌∷◌, refl}
-use Rattle.std.proofs.Common.{ap, sym, ◌∙◌, subst, inl, inr, ⊎_elim, arith}
+use Rattle.std.specs.Prelude.{◌≡◌, ◌⊎◌, ℕ, ◌*◌, ◌<◌, ◌==◌, Bool, true, false, not, ◌||◌, nat_lt, Result, Ok, Err, List, refl}
+use Rattle.std.proofs.Common.{sym, ◌∙◌, subst, inl, inr, ⊎_elim, arith}
 use Rattle.std.proofs.lemmas.Bool.{ltb-true, ltb-false, or_cases}
-use Rattle.std.proofs.lemmas.Bool.Decides.{Decides-eqb, nat_tests}
-use Rattle.image_defs.specs.Ask.{Ask, Done, result_of, check, ◌>>=◌, ◌>>◌}
+use Rattle.std.proofs.lemmas.Bool.Decides.{Decides-eqb}
+use Rattle.image_defs.specs.Ask.{Done, result_of}
 use Rattle.image_defs.proofs.Looks.{bind_refuses, check_refuses, check_gives}
 use Rattle.fault_defs.specs.declared.Refusal.{Refusal}
 use Rattle.fault_defs.specs.declared.Refusal.TheVariants.{NotThis, Damaged, Unsupported, Limit}
 use Rattle.fault_defs.specs.declared.Sort.TheVariants.{InodeNumber, DeadInode, FileSize}
 use Rattle.fault_defs.specs.declared.What.TheVariants.{Snapshot}
 use Rattle.ufs_inode_defs.specs.Superblock.{block_size, has_inode}
-use Rattle.ufs_inode_defs.specs.Inode.{stored_inode, is_snapshot, reach, is_too_long, is_ext_too_long, size_place, ext_size_place, flags_place, sound_inode, tested_inode, inode_at, inode_named}
+use Rattle.ufs_inode_defs.specs.Inode.{stored_inode, is_snapshot, reach, is_too_long, is_ext_too_long, size_place, ext_size_place, flags_place, sound_inode, inode_at, inode_named}
 use Rattle.ufs_inode_defs.specs.declared.superblock.Super.{Super}
 use Rattle.ufs_inode_defs.specs.declared.inode.Inode.{Inode}
 use Rattle.ufs_inode_defs.proofs.InodeLaws.{IsSoundInode, IsRead, inode_read}
 use Rattle.ufs_damage_defs.specs.Damage.{IsReached, HasInode, IsFalseIn, NoInode, Dead, TooLong, ExtendedTooLong, IsUnsupportedIn, IsSnapshot, IsOverIn}
-use Rattle.ufs_damage_defs.proofs.Walks.{failed, not_both}
+use Rattle.ufs_damage_defs.proofs.Walks.{failed}
 
 -- what a refusal says of a volume with a sound superblock holds of it
 abbrev pub IsWrongIn : List ℕ → Super → ℕ → Refusal → Type 0

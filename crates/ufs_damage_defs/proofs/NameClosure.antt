@@ -1,5 +1,5 @@
 -- Where a walk over the directories ends, it has a name for each inode that is reached, and nothing is wrong on the way.
-use Rattle.std.specs.Prelude.{◌≡◌, ◌⊎◌, ℕ, zero, suc, ◌+◌, ◌*◌, ◌%◌, ◌<◌, ◌≤◌, Bool, true, false, ◌==◌, Option, Some, None, Result, Ok, Err, List, [], ◌∷◌, ◌++◌, length, drop, refl}
+use Rattle.std.specs.Prelude.{◌≡◌, ◌⊎◌, ℕ, zero, suc, ◌+◌, ◌*◌, ◌%◌, ◌<◌, ◌≤◌, true, ◌==◌, None, Result, Ok, Err, List, [], ◌∷◌, ◌++◌, length, drop, refl}
 use Rattle.std.specs.List.{All, Contains, filter}
 use Rattle.std.proofs.Common.{ap, sym, ◌∙◌, subst, arith, inl, inr, ⊎_elim, append_assoc, append-nil, length-append, lit≤}
 use Rattle.std.proofs.lemmas.Bool.{cases_eq}
@@ -7,29 +7,27 @@ use Rattle.std.proofs.lemmas.Bool.Decides.{Decides-eqb}
 use Rattle.std.proofs.lemmas.List.{append_cancel_left}
 use Rattle.std.proofs.lemmas.List.Sums.{sum_by-append}
 use Rattle.std.proofs.lemmas.List.Elements.{All-push, All-head, All-tail, All-weaker, All-contains, All-cons, All-nil, Contains-append_left, Contains-append_right, Contains-push}
-use Rattle.image_defs.specs.Ask.{Ask, Done, Stop, result_of, look, check, given, ◌>>=◌, ◌>>◌}
+use Rattle.image_defs.specs.Ask.{result_of, given, ◌>>=◌}
 use Rattle.image_defs.specs.Through.{through}
 use Rattle.image_defs.proofs.Looks.{bind_gives, check_gives, given_gives}
 use Rattle.rx_tree.specs.Path.{joined_path}
 use Rattle.name_defs.specs.Texts.{bytes_text}
 use Rattle.fault_defs.specs.declared.Refusal.{Refusal}
-use Rattle.fault_defs.specs.declared.Refusal.TheVariants.{Damaged, Limit}
-use Rattle.fault_defs.specs.declared.Sort.TheVariants.{DirSize, DirEntry}
-use Rattle.ufs_inode_defs.specs.Superblock.{block_size, wrong_field, super_place}
-use Rattle.ufs_inode_defs.specs.Inode.{stored_inode, is_directory, size_place, inode_at, inode_named}
-use Rattle.ufs_inode_defs.specs.Stream.{content_stream, block_count, content_len}
-use Rattle.ufs_inode_defs.specs.Blocks.{Laid, runs_of, stream_blocks}
-use Rattle.ufs_inode_defs.specs.BlockPlace.{byte_place}
+use Rattle.fault_defs.specs.declared.Refusal.TheVariants.{Damaged}
+use Rattle.fault_defs.specs.declared.Sort.TheVariants.{DirSize}
+use Rattle.ufs_inode_defs.specs.Superblock.{block_size, wrong_field}
+use Rattle.ufs_inode_defs.specs.Inode.{is_directory, size_place, inode_at, inode_named}
+use Rattle.ufs_inode_defs.specs.Stream.{content_stream}
+use Rattle.ufs_inode_defs.specs.Blocks.{runs_of, stream_blocks}
 use Rattle.ufs_inode_defs.specs.declared.superblock.Super.{Super}
 use Rattle.ufs_inode_defs.specs.declared.inode.Inode.{Inode}
-use Rattle.ufs_inode_defs.proofs.InodeLaws.{IsRead}
 use Rattle.ufs_volume_defs.specs.Directory.{Entry, entries_of, leading_entries}
-use Rattle.ufs_volume_defs.specs.Names.{Named, Walk, with_name, with_runs, path_bytes, names_directory, longest_path, most_names, most_path_bytes, deepest, Block, name_by, entry_name, leading, block_names, directory_blocks, directory_names, directories_behind, names_below, root_inode, root_name, names_from, volume_names}
-use Rattle.ufs_damage_defs.specs.Damage.{HasBlock, block_bytes, HasEntry, HasHole, HasGoodPointers, IsGoodDirectory, IsReached, Root, Through}
+use Rattle.ufs_volume_defs.specs.Names.{Named, Walk, with_runs, path_bytes, names_directory, longest_path, most_names, most_path_bytes, deepest, Block, name_by, entry_name, leading, block_names, directory_blocks, directory_names, directories_behind, names_below, root_inode, root_name, names_from, volume_names}
+use Rattle.ufs_damage_defs.specs.Damage.{HasBlock, block_bytes, HasEntry, IsGoodDirectory, IsReached, Root, Through}
 use Rattle.ufs_damage_defs.proofs.Walks.{same_value, not_both, Walks, through_walks}
-use Rattle.ufs_damage_defs.proofs.InodeDamage.{named_gives, named_is}
+use Rattle.ufs_damage_defs.proofs.InodeDamage.{named_gives}
 use Rattle.ufs_damage_defs.proofs.DirectoryLaws.{blocks_are, block_among}
-use Rattle.ufs_damage_defs.proofs.NameFacts.{in_none, in_head, in_filter, dropped}
+use Rattle.ufs_damage_defs.proofs.NameFacts.{in_head, in_filter, dropped}
 use Rattle.ufs_damage_defs.proofs.NameSteps.{IsFound, entry_gives}
 use Rattle.ufs_damage_defs.proofs.NameDamage.{pieces_place, good_of, IsSomewhere, IsAtDepth, depth_goes_on, at_root, HasRoot, root_gives}
 
@@ -149,22 +147,23 @@ module _ (image : List ℕ) (sup : Super) (volume : ℕ) (sound : wrong_field su
             let one : path_bytes (name ∷ []) ≡ length name.path = omega arith in
             let P : Walk → Type 0 = λ w. IsBehindStart w × HasMore walk w × HoldsBehind start (HasNameOf directory (block.index * block_size sup + entry.at) entry) w in
             let grown : walk.names ++ name ∷ [] ≡ start ++ (state.more ++ name ∷ []) = ap (λ names. names ++ name ∷ []) state.grown ∙ append_assoc start state.more (name ∷ []) in
-            subst P entered.counted.is
-            (record {
-              more = state.more ++ name ∷ [];
-              grown = grown;
-              within = record {
-                short = All-push (λ (n : Named). length n.path ≤ longest_path) walk.names name state.within.short entered.counted.short;
-                few = omega (arith, few, long);
-                brief = omega (arith, brief, bytes, one);
-              };
-            },
-            (name ∷ [], refl),
-            record {
-              more = state.more ++ name ∷ [];
-              grown = grown;
-              holds = record { name = name; among = Contains-push state.more name; number_is = refl; path_is = refl; from = refl; offset_is = refl };
-            });
+            subst P entered.counted.is (
+              record {
+                more = state.more ++ name ∷ [];
+                grown = grown;
+                within = record {
+                  short = All-push (λ (n : Named). length n.path ≤ longest_path) walk.names name state.within.short entered.counted.short;
+                  few = omega (arith, few, long);
+                  brief = omega (arith, brief, bytes, one);
+                };
+              },
+              (name ∷ [], refl),
+              record {
+                more = state.more ++ name ∷ [];
+                grown = grown;
+                holds = record { name = name; among = Contains-push state.more name; number_is = refl; path_is = refl; from = refl; offset_is = refl };
+              },
+            );
       }
 
       leading_gives : (at : ℕ) (read : Result (List Entry) ℕ) (leads : List Entry) → leading at read ≡ Ok leads → (entries : List Entry) × (read ≡ Ok entries) × (leading_entries entries ≡ leads)
@@ -269,7 +268,7 @@ module _ (image : List ℕ) (sup : Super) (volume : ℕ) (sound : wrong_field su
         same_value {E = Refusal} name.inode inode (sym (subst P same mine) ∙ (named_gives image sup volume number place inode read).1)
 
     module _ (last : ℕ) (walk after : Walk) (directories : List Named) (state : IsAtDepth image sup volume root sound last walk.names directories) (closed : IsClosed last walk.names directories)
-      (more : List Named) (grown : after.names ≡ walk.names ++ more) (walked : All (λ directory. IsWalkedIn directory more) directories) where
+        (more : List Named) (grown : after.names ≡ walk.names ++ more) (walked : All (λ directory. IsWalkedIn directory more) directories) where
       names_more : IsClosed (suc last) (walk.names ++ more) (filter names_directory more)
       names_more number place depth path reached within =
           ⊎_elim
@@ -325,11 +324,12 @@ module _ (image : List ℕ) (sup : Super) (volume : ℕ) (sound : wrong_field su
         let behind : directories_behind (length walk.names) after.names ≡ filter names_directory more =
         ap (λ names. filter names_directory (drop (length walk.names) names)) grown ∙ ap (filter names_directory) (dropped walk.names more) in
         let N : List Named → Type 0 = λ names. IsClosed (suc last) names (directories_behind (length walk.names) after.names) in
-        let D : List Named → Type 0 = λ ahead. IsClosed (suc last) (walk.names ++ more) ahead in
-        (subst N (sym grown) (subst D (sym behind)
-        (names_more last walk after directories state closed more grown
-        (All-weaker (λ (directory : Named). HoldsBehind walk.names (IsWalkedIn directory) after) (λ directory. IsWalkedIn directory more) (λ directory holds. holds_of walk.names (IsWalkedIn directory) after more grown holds) directories all.2))),
-        all.0.within)
+        let D : List Named → Type 0 = λ ahead. IsClosed (suc last) (walk.names ++ more) ahead in (
+          subst N (sym grown) (subst D (sym behind)
+              (names_more last walk after directories state closed more grown
+              (All-weaker (λ (directory : Named). HoldsBehind walk.names (IsWalkedIn directory) after) (λ directory. IsWalkedIn directory more) (λ directory holds. holds_of walk.names (IsWalkedIn directory) after more grown holds) directories all.2))),
+          all.0.within,
+        )
       where
         directories_walked : (left : List Named) (now end : Walk) → All (IsFound image sup volume root last) left → All (λ name. names_directory name ≡ true) left → IsBehindStart walk.names now
             → result_of image (through (directory_names sup) now left) ≡ Ok end → IsBehindStart walk.names end × HasMore now end × All (λ directory. HoldsBehind walk.names (IsWalkedIn directory) end) left
@@ -340,9 +340,11 @@ module _ (image : List ℕ) (sup : Super) (volume : ℕ) (sound : wrong_field su
             let step = bind_gives image (directory_names sup now directory) (λ next. through (directory_names sup) next left) end is in
             let of = All-head (IsFound image sup volume root last) directory left found in
             let here = directory_walked walk.names directory (named_gives image sup volume directory.number of.place directory.inode of.read).1 (All-head (λ (name : Named). names_directory name ≡ true) directory left are) now step.0 begun step.1 in
-            let later = directories_walked left step.0 end (All-tail (IsFound image sup volume root last) directory left found) (All-tail (λ (name : Named). names_directory name ≡ true) directory left are) here.0 step.2 in
-            (later.0, more_more now step.0 end here.1 later.1,
-            All-cons (λ (one : Named). HoldsBehind walk.names (IsWalkedIn one) end) directory left (stays_behind walk.names (IsWalkedIn directory) (walked_stays directory) step.0 end later.1 here.2) later.2)
+            let later = directories_walked left step.0 end (All-tail (IsFound image sup volume root last) directory left found) (All-tail (λ (name : Named). names_directory name ≡ true) directory left are) here.0 step.2 in (
+              later.0,
+              more_more now step.0 end here.1 later.1,
+              All-cons (λ (one : Named). HoldsBehind walk.names (IsWalkedIn one) end) directory left (stays_behind walk.names (IsWalkedIn directory) (walked_stays directory) step.0 end later.1 here.2) later.2,
+            )
 
     -- where the walk has ended
     pub record HasEnded (names : List Named) : Type 0 where

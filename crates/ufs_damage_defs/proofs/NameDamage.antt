@@ -1,50 +1,47 @@
 -- What refuses a walk over directories is wrong with the volume, or is the limit on runs.
-use Rattle.std.specs.Prelude.{◌≡◌, ◌⊎◌, ℕ, zero, suc, ◌+◌, ◌*◌, ◌%◌, ◌<◌, ◌≤◌, min, Bool, true, false, not, ◌&&◌, ◌==◌, nat_le, nat_lt, if◌then◌else◌, Option, Some, None, Result, Ok, Err, List, [], ◌∷◌, ◌++◌, length, take, drop, refl}
-use Rattle.std.specs.List.{All, AllPairs, Contains, filter}
+use Rattle.std.specs.Prelude.{◌≡◌, ◌⊎◌, ℕ, zero, suc, ◌+◌, ◌*◌, ◌%◌, ◌<◌, ◌≤◌, Bool, true, false, ◌&&◌, ◌==◌, nat_lt, if◌then◌else◌, Some, None, Result, Ok, Err, List, [], ◌∷◌, ◌++◌, length, drop, refl}
+use Rattle.std.specs.List.{All, Contains, filter}
 use Rattle.std.proofs.Common.{ap, sym, ◌∙◌, subst, arith, inl, inr, ⊎_elim, append_assoc, append-nil}
 use Rattle.std.proofs.lemmas.Bool.Decides.{Decides-eqb}
 use Rattle.std.proofs.lemmas.Bool.{cases_eq}
 use Rattle.std.proofs.lemmas.List.{length-take}
 use Rattle.std.proofs.lemmas.List.Elements.{All-push, All-head, All-tail, All-cons, All-nil, All-weaker, All-filter, All-append, All-contains_itself, Contains-append_left, Contains-append_right, filter_passes}
 use Rattle.bytes_defs.specs.Bytes.{part}
-use Rattle.image_defs.specs.Ask.{Ask, Done, Stop, result_of, look, check, given, ◌>>=◌, ◌>>◌}
+use Rattle.image_defs.specs.Ask.{Ask, Done, result_of, check, given, ◌>>=◌}
 use Rattle.image_defs.specs.Through.{through}
 use Rattle.image_defs.proofs.Looks.{bind_gives, check_gives, given_gives, bind_refuses, check_refuses, given_refuses}
-use Rattle.image_defs.proofs.Runs.{result_given}
 use Rattle.rx_ranges.specs.declared.pieces.Piece.{Piece}
-use Rattle.piece_defs.specs.Places.{place_through, ArePiecesAt}
+use Rattle.piece_defs.specs.Places.{place_through}
 use Rattle.piece_defs.proofs.ThroughLaws.{through_law}
 use Rattle.fault_defs.specs.declared.Refusal.{Refusal}
 use Rattle.fault_defs.specs.declared.Refusal.TheVariants.{Damaged, Limit}
-use Rattle.fault_defs.specs.declared.Sort.TheVariants.{RootKind, DirSize, DirEntry, BlockPointer}
+use Rattle.fault_defs.specs.declared.Sort.TheVariants.{RootKind, DirSize, DirEntry}
 use Rattle.fault_defs.specs.declared.Bound.TheVariants.{Depth, Runs}
 use Rattle.ufs_inode_defs.specs.Layout.{layout_of}
 use Rattle.ufs_inode_defs.specs.Superblock.{block_size, wrong_field, super_place}
-use Rattle.ufs_inode_defs.specs.Inode.{stored_inode, is_directory, is_link, is_short_link, type_bits, size_place, inode_at, inode_named}
-use Rattle.ufs_inode_defs.specs.Stream.{Stream, content_stream, block_count, content_len}
+use Rattle.ufs_inode_defs.specs.Inode.{is_directory, is_link, type_bits, size_place, inode_at, inode_named}
+use Rattle.ufs_inode_defs.specs.Stream.{content_stream, block_count, content_len}
 use Rattle.ufs_inode_defs.specs.Blocks.{Laid, runs_of, most_runs, stream_blocks}
 use Rattle.ufs_inode_defs.specs.BlockPlace.{byte_place}
 use Rattle.ufs_inode_defs.specs.declared.superblock.Super.{Super}
 use Rattle.ufs_inode_defs.specs.declared.inode.Inode.{Inode}
 use Rattle.ufs_inode_defs.proofs.BlockLaw.{HasPointers, block_begins}
-use Rattle.ufs_inode_defs.proofs.InodeLaws.{IsRead}
 use Rattle.ufs_inode_defs.proofs.SoundSuper.{is_sound, has_pointers}
 use Rattle.ufs_inode_defs.proofs.StreamLaws.{stream_law}
 use Rattle.ufs_volume_defs.specs.Directory.{Entry, entries_of, leading_entries}
-use Rattle.ufs_volume_defs.specs.Names.{Named, Walk, with_name, with_runs, names_directory, deepest, Block, name_by, entry_name, leading, block_names, placed_block, directory_blocks, directory_names, directories_behind, names_below, root_inode, root_name, names_from, volume_names}
+use Rattle.ufs_volume_defs.specs.Names.{Named, Walk, with_runs, names_directory, deepest, Block, name_by, entry_name, leading, block_names, directory_blocks, directory_names, directories_behind, names_below, root_inode, root_name, names_from, volume_names}
 use Rattle.rx_tree.specs.declared.part.Role.TheVariants.{Content}
 use Rattle.rx_tree.specs.declared.file.Kind.TheVariants.{File, Dir, Link, Other}
 use Rattle.ufs_inode_defs.specs.Inode.{is_file}
 use Rattle.ufs_volume_defs.specs.Files.{Section, content_sections, extended_sections, sections_by, sections_of}
-use Rattle.ufs_damage_defs.specs.StreamDamage.{HasBadPointer}
-use Rattle.ufs_damage_defs.specs.Damage.{HasBlock, block_bytes, HasHole, HasGoodPointers, IsGoodDirectory, IsReached, Root, HasInode, HasSoundInode, IsFalseIn, NoDirectory, BadPointer, OtherSize, InHole, BadEntry, IsOverIn, Deep}
+use Rattle.ufs_damage_defs.specs.Damage.{HasBlock, block_bytes, IsGoodDirectory, Root, HasSoundInode, NoDirectory, BadPointer, OtherSize, InHole, BadEntry, Deep}
 use Rattle.ufs_damage_defs.proofs.Walks.{same_value, same_error, through_keeps, StopsAt, through_stops_at}
 use Rattle.ufs_damage_defs.proofs.StreamDamage.{StopsStream, AtPointer, AtRuns}
 use Rattle.ufs_damage_defs.proofs.StreamStops.{stream_stops, stream_sound}
 use Rattle.ufs_damage_defs.proofs.InodeDamage.{IsWrongIn, both_ways, named_gives, named_is, named_refused}
-use Rattle.ufs_damage_defs.proofs.DirectoryLaws.{AreRising, leading_rise, AreBlocks, blocks_are, hole_of, block_among}
+use Rattle.ufs_damage_defs.proofs.DirectoryLaws.{AreRising, leading_rise, AreBlocks, blocks_are, hole_of}
 use Rattle.ufs_damage_defs.proofs.NameFacts.{in_none, in_cases, in_head, in_tail, IsKnown, known_more, AreOnce, once_behind, AreFresh, fresh_of, dropped}
-use Rattle.ufs_damage_defs.proofs.NameSteps.{IsFound, IsGivenBySome, IsWalk, IsBehind, IsEntry, IsEntered, entry_gives, given as given_name, found as found_name, walks_on, entry_refused}
+use Rattle.ufs_damage_defs.proofs.NameSteps.{IsFound, IsGivenBySome, IsWalk, IsBehind, IsEntry, entry_gives, found as found_name, walks_on, entry_refused}
 
 -- ---- a directory's content
 
@@ -142,7 +139,7 @@ module _ (image : List ℕ) (sup : Super) (volume : ℕ) (root : Inode) (sound :
       among : All (Contains (leading_entries entries)) left
 
     module _ (block : Block) (entries : List Entry) (there : HasBlock image sup directory.inode block.index block.at)
-      (read : entries_of sup.order (block_bytes image sup directory.inode block.index block.at) ≡ Ok entries) where
+        (read : entries_of sup.order (block_bytes image sup directory.inode block.index block.at) ≡ Ok entries) where
       entry_is : (entry : Entry) (left : List Entry) (walk : Walk) → InBlock block entries (entry ∷ left) walk → IsEntry image sup volume root depth directory block entry
       entry_is entry left walk state = record {
         found = of;

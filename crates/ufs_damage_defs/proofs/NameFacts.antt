@@ -1,11 +1,11 @@
 -- Lists of names in which no directory has a number that stands in front.
-use Rattle.std.specs.Prelude.{◌≡◌, ◌⊎◌, ℕ, zero, suc, ◌+◌, ◌-◌, ◌<◌, ◌==◌, Bool, true, false, ◌||◌, if◌then◌else◌, List, [], ◌∷◌, ◌++◌, length, drop, refl}
-use Rattle.std.specs.List.{All, Contains, filter, list_any}
+use Rattle.std.specs.Prelude.{◌≡◌, ◌⊎◌, ℕ, suc, ◌==◌, Bool, true, false, if◌then◌else◌, List, [], ◌∷◌, ◌++◌, length, drop, refl}
+use Rattle.std.specs.List.{Contains, filter}
 use Rattle.std.proofs.Common.{ap, sym, ◌∙◌, subst, arith, inl, inr, ⊎_elim}
 use Rattle.std.proofs.lemmas.Bool.{or_cases, or_left, or_right}
 use Rattle.std.proofs.lemmas.Bool.Decides.{Decides-eqb}
 use Rattle.std.proofs.lemmas.List.Elements.{Contains-append_left, Contains-append_cases, Contains-push_cases}
-use Rattle.ufs_volume_defs.specs.Names.{Named, is_known, names_directory, directories_behind}
+use Rattle.ufs_volume_defs.specs.Names.{Named, is_known, names_directory}
 
 -- ---- items of a list
 
@@ -80,19 +80,21 @@ AreOnce Seen (name ∷ names) = (names_directory name ≡ true → Seen name.num
 
 once_weaker : (Seen Less : ℕ → Type 0) (names : List Named) → ((n : ℕ) → Less n → Seen n) → AreOnce Seen names → AreOnce Less names
 once_weaker Seen Less [] into once = tt
-once_weaker Seen Less (name ∷ names) into once =
-    (λ is less. once.0 is (into name.number less),
-    once_weaker (λ n. Seen n ⊎ (name.number ≡ n)) (λ n. Less n ⊎ (name.number ≡ n)) names (λ n either. ⊎_elim (λ less. inl (into n less)) (λ same. inr same) either) once.1)
+once_weaker Seen Less (name ∷ names) into once = (
+  λ is less. once.0 is (into name.number less),
+  once_weaker (λ n. Seen n ⊎ (name.number ≡ n)) (λ n. Less n ⊎ (name.number ≡ n)) names (λ n either. ⊎_elim (λ less. inl (into n less)) (λ same. inr same) either) once.1,
+)
 
 pub once_push : (Seen : ℕ → Type 0) (names : List Named) (name : Named) → AreOnce Seen names → (names_directory name ≡ true → Seen name.number ⊎ IsKnown name.number names → ⊥) → AreOnce Seen (names ++ name ∷ [])
 once_push Seen [] name once none = (λ is seen. none is (inl seen), tt)
-once_push Seen (first ∷ names) name once none =
-    (once.0,
-    once_push (λ n. Seen n ⊎ (first.number ≡ n)) names name once.1
-    (λ is either. ⊎_elim
-    (λ seen. ⊎_elim (λ front. none is (inl front)) (λ same. none is (inr (record { name = first; among = in_head first names; is = same }))) seen)
-    (λ known. none is (inr (known_tail name.number first names known)))
-    either))
+once_push Seen (first ∷ names) name once none = (
+  once.0,
+  once_push (λ n. Seen n ⊎ (first.number ≡ n)) names name once.1
+      (λ is either. ⊎_elim
+      (λ seen. ⊎_elim (λ front. none is (inl front)) (λ same. none is (inr (record { name = first; among = in_head first names; is = same }))) seen)
+      (λ known. none is (inr (known_tail name.number first names known)))
+      either),
+)
 
 -- those behind some names have none of their numbers
 pub once_behind : (Seen : ℕ → Type 0) (names more : List Named) → AreOnce Seen (names ++ more) → AreOnce (λ n. Seen n ⊎ IsKnown n names) more

@@ -1,12 +1,12 @@
 -- What one more name of a walk over directories says, and what it is refused for.
-use Rattle.std.specs.Prelude.{◌≡◌, ◌⊎◌, ℕ, zero, suc, ◌+◌, ◌*◌, ◌<◌, ◌≤◌, Bool, true, false, not, ◌&&◌, ◌==◌, nat_le, None, Result, Ok, Err, List, [], ◌∷◌, ◌++◌, length, refl}
-use Rattle.std.specs.List.{All, AllPairs, Contains, sum_by}
-use Rattle.std.proofs.Common.{ap, sym, ◌∙◌, subst, arith, inl, inr, ⊎_elim, length-append}
+use Rattle.std.specs.Prelude.{◌≡◌, ℕ, suc, ◌+◌, ◌*◌, ◌<◌, ◌≤◌, Bool, true, false, not, ◌&&◌, nat_le, Result, Ok, Err, List, [], ◌∷◌, ◌++◌, length, refl}
+use Rattle.std.specs.List.{All, AllPairs, Contains}
+use Rattle.std.proofs.Common.{ap, sym, ◌∙◌, subst, arith, ⊎_elim, length-append}
 use Rattle.std.proofs.lemmas.Bool.{leb-true, leb-false}
-use Rattle.std.proofs.lemmas.List.Elements.{All-push, All-contains, All-weaker}
+use Rattle.std.proofs.lemmas.List.Elements.{All-push, All-contains}
 use Rattle.std.proofs.lemmas.List.Quantifiers.{all_pairs_push}
 use Rattle.std.proofs.lemmas.List.Sums.{sum_by-append, sum_by-cons}
-use Rattle.image_defs.specs.Ask.{Ask, Done, result_of, check, ◌>>=◌, ◌>>◌}
+use Rattle.image_defs.specs.Ask.{result_of}
 use Rattle.image_defs.proofs.Looks.{bind_gives, check_gives, bind_refuses, check_refuses}
 use Rattle.rx_tree.specs.Path.{joined_path}
 use Rattle.name_defs.specs.Texts.{bytes_text}
@@ -14,16 +14,16 @@ use Rattle.fault_defs.specs.declared.Refusal.{Refusal}
 use Rattle.fault_defs.specs.declared.Refusal.TheVariants.{Damaged, Limit}
 use Rattle.fault_defs.specs.declared.Sort.TheVariants.{DirTwice}
 use Rattle.fault_defs.specs.declared.Bound.TheVariants.{Names, PathBytes, Path}
-use Rattle.ufs_inode_defs.specs.Superblock.{block_size, wrong_field}
-use Rattle.ufs_inode_defs.specs.Inode.{stored_inode, is_directory, inode_named}
+use Rattle.ufs_inode_defs.specs.Superblock.{block_size}
+use Rattle.ufs_inode_defs.specs.Inode.{is_directory, inode_named}
 use Rattle.ufs_inode_defs.specs.declared.superblock.Super.{Super}
 use Rattle.ufs_inode_defs.specs.declared.inode.Inode.{Inode}
 use Rattle.ufs_volume_defs.specs.Directory.{Entry, entries_of, leading_entries}
-use Rattle.ufs_volume_defs.specs.Names.{Named, Walk, with_name, path_bytes, is_known, names_directory, longest_path, most_names, most_path_bytes, counted_name, Block, name_by, found_name, entry_name, root_name}
-use Rattle.ufs_damage_defs.specs.Damage.{HasBlock, block_bytes, HasEntry, IsGoodDirectory, IsReached, Through, IsGiven, AreApart, HasInode, IsFalseIn, RootAgain, Twice, AreNames, IsOverIn, LongPath, ManyNames, LongNames}
-use Rattle.ufs_damage_defs.proofs.Walks.{same_value, same_error}
+use Rattle.ufs_volume_defs.specs.Names.{Named, Walk, with_name, path_bytes, is_known, longest_path, most_names, most_path_bytes, counted_name, Block, name_by, found_name, entry_name, root_name}
+use Rattle.ufs_damage_defs.specs.Damage.{HasBlock, block_bytes, HasEntry, IsGoodDirectory, IsReached, Through, IsGiven, AreApart, IsFalseIn, RootAgain, Twice, AreNames, LongPath, ManyNames, LongNames}
+use Rattle.ufs_damage_defs.proofs.Walks.{same_value}
 use Rattle.ufs_damage_defs.proofs.InodeDamage.{IsWrongIn, both_ways, named_gives, named_is, named_refused}
-use Rattle.ufs_damage_defs.proofs.NameFacts.{in_cases, IsKnown, known_is, is_known-true, AreOnce, once_push}
+use Rattle.ufs_damage_defs.proofs.NameFacts.{in_cases, known_is, is_known-true, AreOnce, once_push}
 
 and_false : (a b : Bool) → not (a && b) ≡ true → a ≡ true → b ≡ false
 and_false true true is yes_a = absurd cc
@@ -152,15 +152,17 @@ module _ (image : List ℕ) (sup : Super) (volume : ℕ) (root : Inode) where
       pub walks_on : (inode : Inode) → Contains walked directory.number → (is_directory inode ≡ true → is_known entry.inode walk.names ≡ false)
           → (next : IsWalk walked (walk.names ++ name_by sup directory block entry inode ∷ [])) × (next.rest ≡ walks.rest ++ name_by sup directory block entry inode ∷ [])
       walks_on inode has once =
-          let name : Named = name_by sup directory block entry inode in
-          (record {
-            rest = walks.rest ++ name ∷ [];
-            whole = ap (λ list. list ++ name ∷ []) walks.whole;
-            given = All-push IsGivenBySome walks.rest name walks.given (block.at + entry.at, given inode);
-            apart = apart_from inode;
-            once = once_push (λ n. ⊥) walk.names name walks.once (λ is_one either. ⊎_elim (λ never. never) (λ known. both_ways (is_known entry.inode walk.names) (is_known-true entry.inode walk.names known) (once is_one)) either);
-            from = All-push (λ n. Contains walked n.directory) walks.rest name walks.from has;
-          }, refl)
+          let name : Named = name_by sup directory block entry inode in (
+            record {
+              rest = walks.rest ++ name ∷ [];
+              whole = ap (λ list. list ++ name ∷ []) walks.whole;
+              given = All-push IsGivenBySome walks.rest name walks.given (block.at + entry.at, given inode);
+              apart = apart_from inode;
+              once = once_push (λ n. ⊥) walk.names name walks.once (λ is_one either. ⊎_elim (λ never. never) (λ known. both_ways (is_known entry.inode walk.names) (is_known-true entry.inode walk.names known) (once is_one)) either);
+              from = All-push (λ n. Contains walked n.directory) walks.rest name walks.from has;
+            },
+            refl,
+          )
 
       -- ---- what it is refused for
 

@@ -1,6 +1,6 @@
 -- What refuses a volume is wrong with it.
-use Rattle.std.specs.Prelude.{◌≡◌, ◌⊎◌, ℕ, ◌<◌, ◌≤◌, nat_le, Option, Some, None, Result, Ok, Err, List, length, refl}
-use Rattle.std.proofs.Common.{ap, sym, ◌∙◌, subst, inl, inr, ⊎_elim}
+use Rattle.std.specs.Prelude.{◌≡◌, ℕ, nat_le, None, Result, Ok, Err, List, length}
+use Rattle.std.proofs.Common.{ap, sym, ◌∙◌, subst, ⊎_elim}
 use Rattle.std.proofs.lemmas.Bool.{leb-false}
 use Rattle.range_defs.specs.declared.Range.{Range}
 use Rattle.range_defs.specs.declared.TheConstants.{LONGEST_IMAGE}
@@ -13,10 +13,10 @@ use Rattle.fault_defs.specs.declared.Bound.TheVariants.{Image, Runs}
 use Rattle.ufs_inode_defs.specs.Superblock.{wrong_field, volume_super}
 use Rattle.ufs_inode_defs.specs.Blocks.{most_runs}
 use Rattle.ufs_inode_defs.specs.declared.superblock.Super.{Super}
-use Rattle.ufs_volume_defs.specs.Names.{Walk, volume_names}
+use Rattle.ufs_volume_defs.specs.Names.{volume_names}
 use Rattle.ufs_volume_defs.specs.Files.{Filed, named_files}
 use Rattle.ufs_volume_defs.specs.Volume.{FoundVolume, files_below, volume_at}
-use Rattle.ufs_damage_defs.specs.Damage.{HasMagic, HasSuper, IsFalseAt, WrongField, FalseIn, UnsupportedIn, LongImage, OverIn, ManyRuns, CountsMore, OfDirectories, OfFiles, IsWrong}
+use Rattle.ufs_damage_defs.specs.Damage.{HasMagic, HasSuper, WrongField, FalseIn, UnsupportedIn, LongImage, OverIn, ManyRuns, CountsMore, OfDirectories, OfFiles, IsWrong}
 use Rattle.ufs_damage_defs.proofs.SuperDamage.{super_refused, super_sound}
 use Rattle.ufs_damage_defs.proofs.InodeDamage.{IsWrongIn}
 use Rattle.ufs_damage_defs.proofs.NameDamage.{StopsIn, names_stop, names_give}

@@ -1,11 +1,10 @@
 -- A walk over the pointers of a stream stops at one that leads out, and where it ends no pointer that is used does.
 use Rattle.std.specs.Prelude.{◌≡◌, ◌⊎◌, ℕ, zero, suc, ◌+◌, ◌*◌, ◌<◌, ◌≤◌, ℤ, pos, negsuc, Bool, true, false, nat_le, if◌then◌else◌, Result, Ok, Err, List, [], ◌∷◌, drop, length, refl}
-use Rattle.std.proofs.Common.{ap, sym, ◌∙◌, subst, arith, ⊎_elim, inl, inr}
+use Rattle.std.proofs.Common.{ap, sym, subst, arith, ⊎_elim, inl, inr}
 use Rattle.std.proofs.lemmas.Bool.{leb-true}
-use Rattle.std.proofs.lemmas.Bool.Decides.{nat_tests}
 use Rattle.bytes_defs.specs.Bytes.{part}
 use Rattle.bytes_defs.specs.Numbers.{signed_at}
-use Rattle.image_defs.specs.Ask.{Ask, Done, Stop, result_of, check, look, ◌>>=◌, ◌>>◌}
+use Rattle.image_defs.specs.Ask.{Ask, Done, result_of, look, ◌>>=◌}
 use Rattle.image_defs.specs.Through.{through}
 use Rattle.image_defs.proofs.Looks.{bind_gives, check_gives, bind_refuses, check_refuses}
 use Rattle.fault_defs.specs.declared.Refusal.{Refusal}
@@ -16,11 +15,10 @@ use Rattle.ufs_inode_defs.specs.Layout.{layout_of, pointer_len}
 use Rattle.ufs_inode_defs.specs.Numbers.{signed_row}
 use Rattle.ufs_inode_defs.specs.Superblock.{block_size}
 use Rattle.ufs_inode_defs.specs.Stream.{Pointer, Stream, pointers_from, span, block_count, allocated_len}
-use Rattle.ufs_inode_defs.specs.Blocks.{Laid, none_laid, runs_of, most_runs, with_hole, with_block, with_visit, counted_runs, fragment_place, lies_within, led, mapped_blocks, rising_blocks, stream_blocks}
-use Rattle.ufs_inode_defs.specs.BlockPlace.{pointer_at}
+use Rattle.ufs_inode_defs.specs.Blocks.{Laid, runs_of, most_runs, with_hole, with_block, with_visit, counted_runs, fragment_place, lies_within, led, mapped_blocks}
 use Rattle.ufs_inode_defs.specs.declared.superblock.Super.{Super}
 use Rattle.ufs_inode_defs.proofs.BlockLaw.{HasPointers, IsRow, rows_of, past_or, not_past, counted_gives}
-use Rattle.ufs_damage_defs.specs.StreamDamage.{StandsAt, first_mapped, IsUsed, Direct, Rising, Below, LeadsOut, led_len, HasBadPointer}
+use Rattle.ufs_damage_defs.specs.StreamDamage.{IsUsed, Below, HasBadPointer}
 use Rattle.ufs_damage_defs.proofs.Walks.{same_value, same_error}
 
 -- ---- how far a walk has come

@@ -1,26 +1,25 @@
 -- A stream whose walk stops has a pointer that leads out, or more runs than the limit; one whose walk ends has no such pointer.
-use Rattle.std.specs.Prelude.{◌≡◌, ◌⊎◌, ℕ, zero, suc, ◌+◌, ◌*◌, ◌<◌, ◌≤◌, ℤ, pos, negsuc, Bool, true, false, nat_le, if◌then◌else◌, Result, Ok, Err, List, [], ◌∷◌, drop, length, refl}
-use Rattle.std.proofs.Common.{ap, sym, ◌∙◌, subst, arith, ⊎_elim, inl, inr}
+use Rattle.std.specs.Prelude.{◌≡◌, ℕ, zero, suc, ◌+◌, ◌*◌, ◌<◌, ℤ, pos, negsuc, Bool, true, false, nat_le, if◌then◌else◌, Ok, Err, List, [], ◌∷◌, drop, length, refl}
+use Rattle.std.proofs.Common.{ap, sym, ◌∙◌, subst, arith, ⊎_elim, inl}
 use Rattle.std.proofs.lemmas.Bool.{leb-true}
 use Rattle.bytes_defs.specs.Bytes.{part}
 use Rattle.bytes_defs.specs.Numbers.{signed_at}
-use Rattle.image_defs.specs.Ask.{Ask, Done, Stop, result_of, check, look, ◌>>=◌, ◌>>◌}
+use Rattle.image_defs.specs.Ask.{Ask, Done, result_of}
 use Rattle.image_defs.specs.Through.{through}
 use Rattle.image_defs.proofs.Looks.{bind_gives, check_gives, bind_refuses}
 use Rattle.fault_defs.specs.declared.Refusal.{Refusal}
-use Rattle.fault_defs.specs.declared.Refusal.TheVariants.{Damaged, Limit}
+use Rattle.fault_defs.specs.declared.Refusal.TheVariants.{Damaged}
 use Rattle.fault_defs.specs.declared.Sort.TheVariants.{BlockPointer}
 use Rattle.ufs_inode_defs.specs.Layout.{layout_of, pointer_len}
 use Rattle.ufs_inode_defs.specs.Numbers.{signed_row}
 use Rattle.ufs_inode_defs.specs.Superblock.{block_size}
 use Rattle.ufs_inode_defs.specs.Stream.{Pointer, Stream, pointers_from, span, block_count, allocated_len}
-use Rattle.ufs_inode_defs.specs.Blocks.{Laid, none_laid, with_hole, with_block, with_visit, counted_runs, fragment_place, lies_within, led, mapped_blocks, rising_blocks, stream_blocks}
+use Rattle.ufs_inode_defs.specs.Blocks.{Laid, none_laid, with_visit, counted_runs, fragment_place, lies_within, mapped_blocks, rising_blocks, stream_blocks}
 use Rattle.ufs_inode_defs.specs.BlockPlace.{pointer_at}
 use Rattle.ufs_inode_defs.specs.declared.superblock.Super.{Super}
-use Rattle.ufs_inode_defs.proofs.BlockLaw.{HasPointers, IsRow, rows_of, past_or, counted_gives, some_span}
+use Rattle.ufs_inode_defs.proofs.BlockLaw.{HasPointers, IsRow, rows_of, counted_gives}
 use Rattle.ufs_damage_defs.specs.StreamDamage.{StandsAt, first_mapped, IsUsed, Direct, Rising, Below, LeadsOut, led_len, HasBadPointer}
 use Rattle.ufs_damage_defs.proofs.StreamDamage.{HasComeTo, here, there, moves_on, moves_by, children_move, StopsStream, stops_by, same_block}
-use Rattle.ufs_damage_defs.proofs.Walks.{same_value}
 
 module _ (image : List ℕ) (sup : Super) (stream : Stream) (has : HasPointers sup) where
   -- ---- where the walk stops

@@ -1,16 +1,16 @@
 -- The superblock of a volume: which one is read, and what refuses it.
-use Rattle.std.specs.Prelude.{◌≡◌, ◌⊎◌, ◌+◌, ℕ, Option, Some, None, Result, Ok, Err, List, [], ◌∷◌, refl}
+use Rattle.std.specs.Prelude.{◌≡◌, ◌⊎◌, ◌+◌, ℕ, Option, Some, None, Ok, Err, List, refl}
 use Rattle.std.proofs.Common.{ap, sym, ◌∙◌, subst, inl, inr, ⊎_elim}
 use Rattle.range_defs.specs.declared.Range.{Range}
 use Rattle.bytes_defs.specs.declared.order.Order.{Order}
-use Rattle.image_defs.specs.Ask.{Ask, Stop, result_of, given}
+use Rattle.image_defs.specs.Ask.{Stop, result_of}
 use Rattle.image_defs.proofs.Runs.{result_given}
 use Rattle.fault_defs.specs.declared.Refusal.{Refusal}
 use Rattle.fault_defs.specs.declared.Refusal.TheVariants.{NotThis, Damaged}
 use Rattle.fault_defs.specs.declared.Sort.TheVariants.{SuperField}
 use Rattle.ufs_inode_defs.specs.Superblock.{wrong_field, super_place, checked_super, super_in, super_or, super_of_1, super_of_2, volume_super}
 use Rattle.ufs_inode_defs.specs.declared.superblock.Super.{Super}
-use Rattle.ufs_damage_defs.specs.Damage.{order_of_1, order_of_2, HasMagic, First, Second, stored_super, HasSuper, IsFalseAt, WrongField}
+use Rattle.ufs_damage_defs.specs.Damage.{order_of_1, order_of_2, HasMagic, First, Second, stored_super, HasSuper}
 use Rattle.ufs_damage_defs.proofs.Walks.{same_value, same_error, not_both}
 
 module _ (orders : List Order) (image : List ℕ) (volume : Range) where

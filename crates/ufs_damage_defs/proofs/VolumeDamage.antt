@@ -1,18 +1,18 @@
 -- What refuses a volume is wrong with it, nothing is wrong with one that is read, and one with which nothing is wrong is read.
-use Rattle.std.specs.Prelude.{◌≡◌, ℕ, nat_le, Option, Some, None, Result, Ok, Err, List, length, refl}
-use Rattle.std.proofs.Common.{sym, ◌∙◌, ⊎_elim}
+use Rattle.std.specs.Prelude.{◌≡◌, ℕ, nat_le, Result, Ok, Err, List, length, refl}
+use Rattle.std.proofs.Common.{⊎_elim}
 use Rattle.range_defs.specs.declared.Range.{Range}
 use Rattle.range_defs.specs.declared.TheConstants.{LONGEST_IMAGE}
 use Rattle.bytes_defs.specs.declared.order.Order.{Order}
-use Rattle.image_defs.specs.Ask.{result_of, check, ◌>>=◌, ◌>>◌}
+use Rattle.image_defs.specs.Ask.{result_of, check, ◌>>◌}
 use Rattle.image_defs.proofs.Runs.{result_bind_err}
 use Rattle.fault_defs.specs.declared.Refusal.{Refusal}
 use Rattle.fault_defs.specs.declared.Refusal.TheVariants.{NotThis, Limit}
 use Rattle.fault_defs.specs.declared.Bound.TheVariants.{Image}
 use Rattle.ufs_inode_defs.specs.Superblock.{volume_super}
 use Rattle.ufs_volume_defs.specs.Volume.{FoundVolume, files_below, volume_at}
-use Rattle.ufs_damage_defs.specs.Damage.{order_of_1, order_of_2, HasMagic, IsWrong, UfsDamageLaw}
-use Rattle.ufs_damage_defs.proofs.SuperDamage.{says_other, HasSome, magics}
+use Rattle.ufs_damage_defs.specs.Damage.{HasMagic, IsWrong, UfsDamageLaw}
+use Rattle.ufs_damage_defs.proofs.SuperDamage.{says_other, magics}
 use Rattle.ufs_damage_defs.proofs.Refused.{volume_refused}
 use Rattle.ufs_damage_defs.proofs.Accepted.{volume_accepted}
 

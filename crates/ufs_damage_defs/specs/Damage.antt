@@ -1,6 +1,6 @@
 -- What is wrong with a UFS volume, in the words of the tables: what is damaged and where, what isn't supported, and of what there
 -- is too much. It speaks of what is reached through sound tables, and knows nothing of an order.
-use Rattle.std.specs.Prelude.{◌≡◌, ◌⊎◌, ℕ, suc, ◌+◌, ◌-◌, ◌*◌, ◌%◌, ◌<◌, ◌==◌, min, true, false, Option, Some, None, Ok, Err, List, [], ◌∷◌, length}
+use Rattle.std.specs.Prelude.{◌≡◌, ◌⊎◌, ℕ, suc, ◌+◌, ◌-◌, ◌*◌, ◌%◌, ◌<◌, min, true, false, Option, Some, None, Ok, Err, List, [], ◌∷◌, length}
 use Rattle.std.specs.List.{All, AllPairs, Contains}
 use Rattle.range_defs.specs.declared.Range.{Range}
 use Rattle.range_defs.specs.declared.TheConstants.{LONGEST_IMAGE}

@@ -281,8 +281,8 @@ row_from image sup place (suc more) number rest fits =
     let split : drop len (part image at rest) ≡ part image (place + (number + 1) * len) (rest - len) =
     ap (λ n. drop len (part image at n)) (sym whole) ∙ dropped_part image at len (rest - len) ∙ ap (λ n. part image n (rest - len)) next in (
       signed_at_number sup.order (layout_of sup.version).pointer (part image at rest) 0
-      ∙ ap (cast_signed (layout_of sup.version).pointer) (number_at_part sup.order len image at rest 0 (omega (arith, first, fits)) ∙ ap (number_at sup.order len image) here)
-      ∙ sym (signed_at_number sup.order (layout_of sup.version).pointer image at),
+          ∙ ap (cast_signed (layout_of sup.version).pointer) (number_at_part sup.order len image at rest 0 (omega (arith, first, fits)) ∙ ap (number_at sup.order len image) here)
+          ∙ sym (signed_at_number sup.order (layout_of sup.version).pointer image at),
       subst P (sym split) (row_from image sup place more (number + 1) (rest - len) (omega (arith, first, fits))),
     )
 

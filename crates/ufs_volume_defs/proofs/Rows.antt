@@ -11,6 +11,7 @@ use Rattle.range_defs.specs.declared.Range.{Range}
 use Rattle.rx_ranges.specs.declared.pieces.Piece.{Piece}
 use Rattle.rx_ranges.specs.declared.pieces.PieceKind.TheVariants.{Disk, Zero}
 use Rattle.order_defs.specs.Sorted.{sorted_by_order, distinct}
+use Rattle.rx_tree.specs.PartValue.{PartValue}
 use Rattle.rx_tree.specs.declared.part.Role.TheVariants as roles
 use Rattle.rx_tree.specs.declared.file.Kind.{Kind}
 use Rattle.rx_tree.specs.declared.file.Kind.TheVariants.{File, Dir, Link, Other}
@@ -47,14 +48,17 @@ found_in size image = files (result_of image (volume_at (Little ∷ []) size (wh
 abbrev found_t : List ℕ → Result (List FileEntry) Refusal
 found_t = found_in 262144
 
+-- a file with these parts
+abbrev with_parts : ℕ → Kind → List (List ℕ) → List PartValue → FileEntry
+with_parts number kind names parts = record { id = record { volume = 0; number = number }; kind = kind; names = names; parts = parts }
+
+-- a part of this content
+abbrev content : ℕ → List Piece → List Range → PartValue
+content size pieces slack = record { role = roles.Content; name = []; size = size; pieces = pieces; slack = slack; unreadable = false }
+
 -- a file of one part
 abbrev one_part : ℕ → Kind → List (List ℕ) → ℕ → List Piece → List Range → FileEntry
-one_part number kind names size pieces slack = record {
-  id = record { volume = 0; number = number };
-  kind = kind;
-  names = names;
-  parts = record { role = roles.Content; name = []; size = size; pieces = pieces; slack = slack; unreadable = false } ∷ [];
-}
+one_part number kind names size pieces slack = with_parts number kind names (content size pieces slack ∷ [])
 
 -- the root of one block at 81920
 abbrev root_t : FileEntry
@@ -116,7 +120,7 @@ unfolding computing image_of_two_blocks
 files_two_blocks = refl
 
 -- a link of 119 bytes has its target in the inode, and one of 120 has a block
-files_short_link : found_t (image_of_link 119) ≡ Ok (root_t ∷ record { id = record { volume = 0; number = 3 }; kind = Link; names = (47 ∷ 97 ∷ []) ∷ []; parts = [] } ∷ [])
+files_short_link : found_t (image_of_link 119) ≡ Ok (root_t ∷ with_parts 3 Link ((47 ∷ 97 ∷ []) ∷ []) [] ∷ [])
 unfolding computing
 files_short_link = refl
 
@@ -128,22 +132,17 @@ unfolding computing
 files_long_link = refl
 
 -- a device has no parts, whatever its pointers are
-files_device : found_t (slice_set image_t 74497 0x21) ≡ Ok (root_t ∷ record { id = record { volume = 0; number = 3 }; kind = Other; names = (47 ∷ 97 ∷ []) ∷ []; parts = [] } ∷ [])
+files_device : found_t (slice_set image_t 74497 0x21) ≡ Ok (root_t ∷ with_parts 3 Other ((47 ∷ 97 ∷ []) ∷ []) [] ∷ [])
 unfolding computing image_t
 files_device = refl
 
 -- an extended area of five bytes beside an empty content
 files_extended : found_t image_of_extended ≡ Ok (
     root_t
-    ∷ record {
-      id = record { volume = 0; number = 3 };
-      kind = File;
-      names = (47 ∷ 97 ∷ []) ∷ [];
-      parts =
-          record { role = roles.Content; name = []; size = 0; pieces = []; slack = []; unreadable = false }
-          ∷ record { role = roles.Other; name = 101 ∷ 120 ∷ 116 ∷ []; size = 5; pieces = record { from = 0; len = 5; kind = Disk; at = 94208 } ∷ []; slack = record { at = 94213; len = 4091 } ∷ []; unreadable = false }
-          ∷ [];
-    }
+    ∷ with_parts 3 File ((47 ∷ 97 ∷ []) ∷ [])
+    (content 0 [] []
+    ∷ record { role = roles.Other; name = 101 ∷ 120 ∷ 116 ∷ []; size = 5; pieces = record { from = 0; len = 5; kind = Disk; at = 94208 } ∷ []; slack = record { at = 94213; len = 4091 } ∷ []; unreadable = false }
+    ∷ [])
     ∷ [])
 unfolding computing image_of_extended
 files_extended = refl
