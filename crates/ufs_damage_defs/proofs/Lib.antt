@@ -6,6 +6,7 @@ pub mod InodeDamage
 pub mod DirectoryLaws
 pub mod NameFacts
 pub mod NameSteps
+pub mod Contents
 pub mod NameDamage
 pub mod FileDamage
 pub mod NameClosure

@@ -29,7 +29,8 @@ use Rattle.ufs_damage_defs.proofs.InodeDamage.{named_gives}
 use Rattle.ufs_damage_defs.proofs.DirectoryLaws.{blocks_are, block_among}
 use Rattle.ufs_damage_defs.proofs.NameFacts.{in_head, in_filter, dropped}
 use Rattle.ufs_damage_defs.proofs.NameSteps.{IsFound, entry_gives}
-use Rattle.ufs_damage_defs.proofs.NameDamage.{pieces_place, good_of, IsSomewhere, IsAtDepth, depth_goes_on, at_root, HasRoot, root_gives}
+use Rattle.ufs_damage_defs.proofs.Contents.{pieces_place, good_of}
+use Rattle.ufs_damage_defs.proofs.NameDamage.{IsSomewhere, IsAtDepth, depth_goes_on, at_root, HasRoot, root_gives}
 
 -- names within the limits
 pub record AreWithinLimits (names : List Named) : Type 0 where

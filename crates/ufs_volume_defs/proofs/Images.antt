@@ -13,9 +13,9 @@ whole size = record { at = 0; len = size }
 
 -- ---- a UFS2 of 64 blocks of one fragment
 
--- the superblock at 65536, and inode 2 at 74240
-abbrev pub volume_of_t : List (ℕ × List ℕ)
-volume_of_t =
+-- the superblock at 65536
+abbrev super_of_t : List (ℕ × List ℕ)
+super_of_t =
     (65536 + 12, 17 ∷ [])
     ∷ (65536 + 16, 18 ∷ [])
     ∷ (65536 + 44, 1 ∷ [])
@@ -27,10 +27,11 @@ volume_of_t =
     ∷ (65536 + 184, 16 ∷ [])
     ∷ (65536 + 188, 64 ∷ [])
     ∷ (65536 + 1372, 0x19 ∷ 0x01 ∷ 0x54 ∷ 0x19 ∷ [])
-    ∷ (74240, 0xED ∷ 0x41 ∷ 2 ∷ [])
-    ∷ (74240 + 16, 0 ∷ 2 ∷ [])
-    ∷ (74240 + 112, 20 ∷ [])
     ∷ []
+
+-- inode 2 at 74240, with a size and pointers in these bytes
+abbrev root_of_t : List ℕ → List ℕ → List (ℕ × List ℕ)
+root_of_t size pointers = (74240, 0xED ∷ 0x41 ∷ 2 ∷ []) ∷ (74240 + 16, size) ∷ (74240 + 112, pointers) ∷ []
 
 -- the entries "." and ".." of the root at 81920
 abbrev pub dots_of_t : List (ℕ × List ℕ)
@@ -38,7 +39,7 @@ dots_of_t = (81920, 2 ∷ 0 ∷ 0 ∷ 0 ∷ 12 ∷ 0 ∷ 4 ∷ 1 ∷ 46 ∷ []) 
 
 -- 262,144 bytes: the superblock and the root, some inodes, the root's entries behind "..", and what stands behind them
 abbrev pub image_with : List (ℕ × List ℕ) → List (ℕ × List ℕ) → List ℕ
-image_with inodes entries = zeros_but 0 262144 (volume_of_t ++ (inodes ++ (dots_of_t ++ entries)))
+image_with inodes entries = zeros_but 0 262144 (super_of_t ++ (root_of_t (0 ∷ 2 ∷ []) (20 ∷ []) ++ (inodes ++ (dots_of_t ++ entries))))
 
 -- inode 3 of a file of these bytes in size, in block 21
 abbrev pub file_3 : List ℕ → List (ℕ × List ℕ)
@@ -92,22 +93,7 @@ image_of_extended = image_with ((74496, 0xA4 ∷ 0x81 ∷ 1 ∷ []) ∷ (74496 +
 -- a root of 4,608 bytes in the blocks 20 and 22: the 512 in front are one unused entry each, and in the last "a" stands
 unfoldable pub image_of_two_blocks : List ℕ
 image_of_two_blocks =
-    zeros_but 0 262144 (
-    (65536 + 12, 17 ∷ [])
-    ∷ (65536 + 16, 18 ∷ [])
-    ∷ (65536 + 44, 1 ∷ [])
-    ∷ (65536 + 48, 0 ∷ 16 ∷ [])
-    ∷ (65536 + 52, 0 ∷ 16 ∷ [])
-    ∷ (65536 + 56, 1 ∷ [])
-    ∷ (65536 + 116, 0 ∷ 2 ∷ [])
-    ∷ (65536 + 120, 16 ∷ [])
-    ∷ (65536 + 184, 16 ∷ [])
-    ∷ (65536 + 188, 64 ∷ [])
-    ∷ (65536 + 1372, 0x19 ∷ 0x01 ∷ 0x54 ∷ 0x19 ∷ [])
-    ∷ (74240, 0xED ∷ 0x41 ∷ 2 ∷ [])
-    ∷ (74240 + 16, 0 ∷ 18 ∷ [])
-    ∷ (74240 + 112, 20 ∷ 0 ∷ 0 ∷ 0 ∷ 0 ∷ 0 ∷ 0 ∷ 0 ∷ 22 ∷ [])
-    ∷ (file_3 (3 ∷ [])
+    zeros_but 0 262144 (super_of_t ++ (root_of_t (0 ∷ 18 ∷ []) (20 ∷ 0 ∷ 0 ∷ 0 ∷ 0 ∷ 0 ∷ 0 ∷ 0 ∷ 22 ∷ []) ++ (file_3 (3 ∷ [])
     ++ ((81920 + 4, 0 ∷ 2 ∷ [])
     ∷ (81920 + 516, 0 ∷ 2 ∷ [])
     ∷ (81920 + 1028, 0 ∷ 2 ∷ [])
@@ -117,7 +103,7 @@ image_of_two_blocks =
     ∷ (81920 + 3076, 0 ∷ 2 ∷ [])
     ∷ (81920 + 3588, 0 ∷ 2 ∷ [])
     ∷ (90112, 3 ∷ 0 ∷ 0 ∷ 0 ∷ 0 ∷ 2 ∷ 8 ∷ 1 ∷ 97 ∷ [])
-    ∷ [])))
+    ∷ []))))
 
 -- ---- a UFS1 of 64 fragments of 1,024 bytes, four to a block
 
