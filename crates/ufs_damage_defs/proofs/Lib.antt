@@ -1,4 +1,5 @@
 pub mod Walks
+pub mod Seen
 pub mod StreamDamage
 pub mod StreamStops
 pub mod SuperDamage
