@@ -52,17 +52,17 @@ module _ (image : List ℕ) (sup : Super) (volume : ℕ) (root : Inode) (sound :
 
   module _ (depth : ℕ) (directory : Named) (of : IsFound image sup volume root depth directory) (good : IsGoodDirectory image sup directory.inode) (walked : List ℕ) (has : Contains walked directory.number) (start : List Named) where
     -- in a block, in front of some entries
-    record InBlock (block : Block) (entries : List Entry) (left : List Entry) (walk : Walk) : Type 0 where
-      level : IsLevel depth walked start walk.names
-      bound : ℕ
-      fits : bound ≤ block_size sup
-      behind : IsBehind image sup volume root directory.number (block.index * block_size sup + bound) level.walks.rest
-      rise : AreRising (block_size sup) bound left
-      among : All (Contains (leading_entries entries)) left
+    pub record InBlock (block : Block) (entries : List Entry) (left : List Entry) (walk : Walk) : Type 0 where
+      pub level : IsLevel depth walked start walk.names
+      pub bound : ℕ
+      pub fits : bound ≤ block_size sup
+      pub behind : IsBehind image sup volume root directory.number (block.index * block_size sup + bound) level.walks.rest
+      pub rise : AreRising (block_size sup) bound left
+      pub among : All (Contains (leading_entries entries)) left
 
     module _ (block : Block) (entries : List Entry) (there : HasBlock image sup directory.inode block.index block.at)
         (read : entries_of sup.order (block_bytes image sup directory.inode block.index block.at) ≡ Ok entries) where
-      entry_is : (entry : Entry) (left : List Entry) (walk : Walk) → InBlock block entries (entry ∷ left) walk → IsEntry image sup volume root depth directory block entry
+      pub entry_is : (entry : Entry) (left : List Entry) (walk : Walk) → InBlock block entries (entry ∷ left) walk → IsEntry image sup volume root depth directory block entry
       entry_is entry left walk state = record {
         found = of;
         good = good;
@@ -72,7 +72,7 @@ module _ (image : List ℕ) (sup : Super) (volume : ℕ) (root : Inode) (sound :
         among = All-head (Contains (leading_entries entries)) entry left state.among;
       }
 
-      in_front : (entry : Entry) (left : List Entry) (walk : Walk) (state : InBlock block entries (entry ∷ left) walk)
+      pub in_front : (entry : Entry) (left : List Entry) (walk : Walk) (state : InBlock block entries (entry ∷ left) walk)
           → IsBehind image sup volume root directory.number (block.index * block_size sup + entry.at) state.level.walks.rest
       in_front entry left walk state =
           All-weaker (λ (name : Named). name.directory ≡ directory.number → name.offset < block.index * block_size sup + state.bound)
@@ -80,7 +80,7 @@ module _ (image : List ℕ) (sup : Super) (volume : ℕ) (root : Inode) (sound :
           (λ name before same. let front = before same in let from = state.rise.0 in omega (arith, front, from))
           state.level.walks.rest state.behind
 
-      entry_goes_on : (entry : Entry) (left : List Entry) (walk after : Walk) → InBlock block entries (entry ∷ left) walk → result_of image (entry_name sup directory block walk entry) ≡ Ok after → InBlock block entries left after
+      pub entry_goes_on : (entry : Entry) (left : List Entry) (walk after : Walk) → InBlock block entries (entry ∷ left) walk → result_of image (entry_name sup directory block walk entry) ≡ Ok after → InBlock block entries left after
       entry_goes_on entry left walk after state gives =
           let entered = entry_gives image sup directory block walk entry after gives in
           let name : Named = name_by sup directory block entry entered.inode in
@@ -115,22 +115,22 @@ module _ (image : List ℕ) (sup : Super) (volume : ℕ) (root : Inode) (sound :
           (in_front stops.item stops.rest stops.state stops.holds) e stops.is)
 
     -- in front of some blocks
-    record AtBlocks (pieces : List Piece) (left : List Block) (walk : Walk) : Type 0 where
-      level : IsLevel depth walked start walk.names
-      first : ℕ
-      are : AreBlocks sup pieces first left
-      many : first + length left ≤ block_count sup directory.inode.size
-      behind : IsBehind image sup volume root directory.number (first * block_size sup) level.walks.rest
+    pub record AtBlocks (pieces : List Piece) (left : List Block) (walk : Walk) : Type 0 where
+      pub level : IsLevel depth walked start walk.names
+      pub first : ℕ
+      pub are : AreBlocks sup pieces first left
+      pub many : first + length left ≤ block_count sup directory.inode.size
+      pub behind : IsBehind image sup volume root directory.number (first * block_size sup) level.walks.rest
 
     module _ (pieces : List Piece) (places : (index : ℕ) → index < block_count sup directory.inode.size → place_through pieces (index * block_size sup) ≡ byte_place image sup (content_stream sup directory.inode) (index * block_size sup)) where
-      block_there : (block : Block) (left : List Block) (walk : Walk) → AtBlocks pieces (block ∷ left) walk → HasBlock image sup directory.inode block.index block.at
+      pub block_there : (block : Block) (left : List Block) (walk : Walk) → AtBlocks pieces (block ∷ left) walk → HasBlock image sup directory.inode block.index block.at
       block_there block left walk state =
           let many = state.many in
           let below : state.first < block_count sup directory.inode.size = omega (arith, many) in
           let P : ℕ → Type 0 = λ index. HasBlock image sup directory.inode index block.at in
           subst P (sym state.are.0) (record { below = below; there = sym (places state.first below) ∙ state.are.1 })
 
-      in_block : (block : Block) (left : List Block) (walk : Walk) (entries : List Entry) → AtBlocks pieces (block ∷ left) walk
+      pub in_block : (block : Block) (left : List Block) (walk : Walk) (entries : List Entry) → AtBlocks pieces (block ∷ left) walk
           → entries_of sup.order (block_bytes image sup directory.inode block.index block.at) ≡ Ok entries → InBlock block entries (leading_entries entries) walk
       in_block block left walk entries state read = record {
         level = state.level;
@@ -149,7 +149,7 @@ module _ (image : List ℕ) (sup : Super) (volume : ℕ) (root : Inode) (sound :
           plus_none : (n : ℕ) → n ≡ n + 0
           plus_none n = omega arith
 
-      leading_gives : (at : ℕ) (read : Result (List Entry) ℕ) (leads : List Entry) → leading at read ≡ Ok leads → (entries : List Entry) × (read ≡ Ok entries) × (leading_entries entries ≡ leads)
+      pub leading_gives : (at : ℕ) (read : Result (List Entry) ℕ) (leads : List Entry) → leading at read ≡ Ok leads → (entries : List Entry) × (read ≡ Ok entries) × (leading_entries entries ≡ leads)
       leading_gives at (Ok entries) leads is = (entries, refl, same_value {E = Refusal} (leading_entries entries) leads is)
       leading_gives at (Err place) leads is = absurd cc
 
@@ -157,7 +157,7 @@ module _ (image : List ℕ) (sup : Super) (volume : ℕ) (root : Inode) (sound :
       leading_refuses at (Ok entries) e is = absurd cc
       leading_refuses at (Err place) e is = (place, refl, same_error {X = List Entry} (Damaged DirEntry (at + place)) e is)
 
-      block_goes_on : (block : Block) (left : List Block) (walk after : Walk) → AtBlocks pieces (block ∷ left) walk → result_of image (block_names sup directory walk block) ≡ Ok after → AtBlocks pieces left after
+      pub block_goes_on : (block : Block) (left : List Block) (walk after : Walk) → AtBlocks pieces (block ∷ left) walk → result_of image (block_names sup directory walk block) ≡ Ok after → AtBlocks pieces left after
       unfolding block_names
       block_goes_on block left walk after state gives =
           let bytes : List ℕ = block_bytes image sup directory.inode block.index block.at in
@@ -213,7 +213,7 @@ module _ (image : List ℕ) (sup : Super) (volume : ℕ) (root : Inode) (sound :
     pub are : All (λ name. names_directory name ≡ true) left
     pub in_start : All (Contains start) left
 
-  sound_inode_of : (depth : ℕ) (name : Named) → IsFound image sup volume root depth name → HasSoundInode image sup name.number name.inode
+  pub sound_inode_of : (depth : ℕ) (name : Named) → IsFound image sup volume root depth name → HasSoundInode image sup name.number name.inode
   sound_inode_of depth name found =
       let named = named_gives image sup volume name.number found.place name.inode found.read in
       record {
@@ -222,13 +222,13 @@ module _ (image : List ℕ) (sup : Super) (volume : ℕ) (root : Inode) (sound :
       }
 
   module _ (depth : ℕ) (start : List Named) (directory : Named) (left : List Named) (walk : Walk) (state : AtDirectories depth start (directory ∷ left) walk) where
-    of : IsFound image sup volume root depth directory
+    pub of : IsFound image sup volume root depth directory
     of = All-head (IsFound image sup volume root depth) directory left state.found
 
-    is_one : is_directory directory.inode ≡ true
+    pub is_one : is_directory directory.inode ≡ true
     is_one = All-head (λ (name : Named). names_directory name ≡ true) directory left state.are
 
-    at_blocks : (laid : Laid) (blocks : List Block) (good : IsGoodDirectory image sup directory.inode) → directory_blocks sup directory.inode laid.pieces ≡ Ok blocks
+    pub at_blocks : (laid : Laid) (blocks : List Block) (good : IsGoodDirectory image sup directory.inode) → directory_blocks sup directory.inode laid.pieces ≡ Ok blocks
         → AtBlocks depth directory of good (directory.number ∷ state.walked) (in_head directory.number state.walked) start laid.pieces blocks (with_runs walk (runs_of laid))
     at_blocks laid blocks good are =
         let all = blocks_are sup directory.inode laid.pieces blocks are in
@@ -257,7 +257,7 @@ module _ (image : List ℕ) (sup : Super) (volume : ℕ) (root : Inode) (sound :
               walks.rest walks.from;
         }
 
-    directory_goes_on : (after : Walk) → result_of image (directory_names sup walk directory) ≡ Ok after → AtDirectories depth start left after
+    pub directory_goes_on : (after : Walk) → result_of image (directory_names sup walk directory) ≡ Ok after → AtDirectories depth start left after
     unfolding directory_names
     directory_goes_on after gives =
         let inode : Inode = directory.inode in
@@ -333,7 +333,7 @@ module _ (image : List ℕ) (sup : Super) (volume : ℕ) (root : Inode) (sound :
     pub in_names : All (Contains names) directories
     pub all : All IsSomewhere names
 
-  at_directories : (depth : ℕ) (walk : Walk) (directories : List Named) → IsAtDepth depth walk.names directories → AtDirectories depth walk.names directories walk
+  pub at_directories : (depth : ℕ) (walk : Walk) (directories : List Named) → IsAtDepth depth walk.names directories → AtDirectories depth walk.names directories walk
   at_directories depth walk directories state = record {
     walked = state.walked;
     level = record { walks = state.walks; more = []; grown = sym (append-nil walk.names); found = All-nil (IsFound image sup volume root (suc depth)) };

@@ -115,7 +115,7 @@ module _ (image : List ℕ) (sup : Super) (volume : ℕ) (root : Inode) where
     has_entry = record { index = block.index; at = block.at; block = is.has_block; entries = is.entries; read = is.read; among = is.among; offset_is = refl; place_is = refl }
 
     -- it is reached
-    reached : IsReached image sup entry.inode (block.at + entry.at) (suc depth) (joined_path directory.path (bytes_text entry.name))
+    pub reached : IsReached image sup entry.inode (block.at + entry.at) (suc depth) (joined_path directory.path (bytes_text entry.name))
     reached = Through directory.number is.found.place depth directory.path directory.inode (block.index * block_size sup + entry.at) (block.at + entry.at) entry is.found.reached is.found.read is.good has_entry
 
     pub given : (inode : Inode) → IsGiven image sup (name_by sup directory block entry inode) (block.at + entry.at)
