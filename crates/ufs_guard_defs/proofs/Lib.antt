@@ -1,1 +1,2 @@
 pub mod StreamLooks
+pub mod NameLooks
