@@ -1,2 +1,3 @@
 pub mod StreamLooks
 pub mod NameLooks
+pub mod VolumeLooks
