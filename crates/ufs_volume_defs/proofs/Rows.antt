@@ -1,5 +1,5 @@
 -- What the definitions say of small images, worked out by hand.
-use Rattle.std.specs.Prelude.{◌≡◌, ℕ, false, List, [], ◌∷◌, ◌++◌, take, slice_set, replicate, Result, Ok, Err, refl}
+use Rattle.std.specs.Prelude.{◌≡◌, ℕ, pos, false, map, Option, None, Some, List, [], ◌∷◌, ◌++◌, take, slice_set, replicate, Result, Ok, Err, refl}
 use Rattle.std.specs.Int.Count.{ones}
 use Rattle.std.specs.Char.{encode_utf8}
 use Rattle.std.specs.Str.{is_utf8, chars}
@@ -16,6 +16,8 @@ use Rattle.rx_tree.specs.declared.part.Role.TheVariants as roles
 use Rattle.rx_tree.specs.declared.file.Kind.{Kind}
 use Rattle.rx_tree.specs.declared.file.Kind.TheVariants.{File, Dir, Link, Other}
 use Rattle.rx_tree.specs.declared.file.FileEntry.{FileEntry}
+use Rattle.rx_tree.specs.declared.times.Times.{Times}
+use Rattle.rx_time.specs.Moments.{unix_moment}
 use Rattle.name_defs.specs.Items.{byte_items, item_of_bytes}
 use Rattle.name_defs.specs.Texts.{items_text}
 use Rattle.name_defs.specs.Spelling.{name_spelling, word_spelling}
@@ -37,12 +39,19 @@ unfoldable pub computing : Unit {0}
 unfolding part number_at signed_at ones byte_items item_of_bytes items_text name_spelling word_spelling is_utf8 chars encode_utf8 sorted_by_order distinct superblock_of is_block_size is_fragment_size is_fragment_count is_inode_count wrong_field super_in super_of_1 super_of_2 volume_super inode_place has_inode inode_1 inode_2 sound_inode inode_at inode_named mapped_blocks stream_blocks is_entry entries_within counted_name entry_name block_names directory_blocks directory_names names_below root_inode volume_names sections_of section_part inode_parts number_file named_files files_below volume_at
 computing = tt
 
+-- a file without what its inode says of mode, links, owners and times
+abbrev no_times : Times
+no_times = record { modified = None; changed = None; accessed = None; created = None }
+
+abbrev bare : FileEntry → FileEntry
+bare file = record file { mode = None; links = None; uid = None; gid = None; times = no_times }
+
 -- what a volume has, in an image whose numbers have the lowest byte first
 abbrev found_in : ℕ → List ℕ → Result (List FileEntry) Refusal
 found_in size image = files (result_of image (volume_at (Little ∷ []) size (whole size) 0))
   where
     files : Result FoundVolume Refusal → Result (List FileEntry) Refusal
-    files (Ok found) = Ok found.files
+    files (Ok found) = Ok (map bare found.files)
     files (Err refusal) = Err refusal
 
 abbrev found_t : List ℕ → Result (List FileEntry) Refusal
@@ -50,7 +59,8 @@ found_t = found_in 262144
 
 -- a file with these parts
 abbrev with_parts : ℕ → Kind → List (List ℕ) → List PartValue → FileEntry
-with_parts number kind names parts = record { id = record { volume = 0; number = number }; kind = kind; names = names; parts = parts }
+with_parts number kind names parts =
+    record { id = record { volume = 0; number = number }; kind = kind; names = names; mode = None; links = None; uid = None; gid = None; times = no_times; parts = parts }
 
 -- a part of this content
 abbrev content : ℕ → List Piece → List Range → PartValue
@@ -73,6 +83,21 @@ files_t : found_t image_t ≡ Ok (
     ∷ [])
 unfolding computing image_t
 files_t = refl
+
+-- what the inodes say of mode, links, owners and times
+abbrev said_t : Result (List (Option ℕ × Option ℕ × Option ℕ × Option ℕ × Times)) Refusal
+said_t = said (result_of image_t (volume_at (Little ∷ []) 262144 (whole 262144) 0))
+  where
+    said : Result FoundVolume Refusal → Result (List (Option ℕ × Option ℕ × Option ℕ × Option ℕ × Times)) Refusal
+    said (Ok found) = Ok (map (λ file. (file.mode, file.links, file.uid, file.gid, file.times)) found.files)
+    said (Err refusal) = Err refusal
+
+abbrev all_0 : Times
+all_0 = record { modified = Some (unix_moment (pos 0)); changed = Some (unix_moment (pos 0)); accessed = Some (unix_moment (pos 0)); created = Some (unix_moment (pos 0)) }
+
+inodes_t : said_t ≡ Ok ((Some 0x41ED, Some 2, Some 0, Some 0, all_0) ∷ (Some 0x81A4, Some 1, Some 0, Some 0, all_0) ∷ [])
+unfolding computing image_t
+inodes_t = refl
 
 -- the bytes at which one looks for them
 abbrev pub looked_at_t : List Range
@@ -162,7 +187,7 @@ abbrev at_4096 : Result (List FileEntry) Refusal
 at_4096 = files (result_of (replicate 4096 0 ++ image_t) (volume_at (Little ∷ []) 266240 (record { at = 4096; len = 262144 }) 0))
   where
     files : Result FoundVolume Refusal → Result (List FileEntry) Refusal
-    files (Ok found) = Ok found.files
+    files (Ok found) = Ok (map bare found.files)
     files (Err refusal) = Err refusal
 
 files_at_4096 : at_4096 ≡ Ok (
@@ -188,7 +213,7 @@ abbrev found_both : List ℕ → Result (List FileEntry) Refusal
 found_both image = files (result_of image (volume_at (Little ∷ Big ∷ []) 65536 (whole 65536) 0))
   where
     files : Result FoundVolume Refusal → Result (List FileEntry) Refusal
-    files (Ok found) = Ok found.files
+    files (Ok found) = Ok (map bare found.files)
     files (Err refusal) = Err refusal
 
 high_first : (found_both image_of_high_first ≡ Ok files_1) × (found_in 65536 image_of_high_first ≡ Err NotThis) × (found_both (slice_set image_of_high_first 18859 64) ≡ Err (Damaged BlockPointer 18856))

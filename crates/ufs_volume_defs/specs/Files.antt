@@ -1,9 +1,12 @@
 -- The files of a volume: what they are, their names, and their streams as parts.
-use Rattle.std.specs.Prelude.{ℕ, ◌==◌, false, if◌then◌else◌, List, [], ◌∷◌, ◌++◌, map, codes}
+use Rattle.std.specs.Prelude.{ℕ, ◌==◌, false, if◌then◌else◌, List, [], ◌∷◌, ◌++◌, map, codes, Option, None, Some}
 use Rattle.std.specs.List.{filter}
 use Rattle.image_defs.specs.Ask.{Ask, Done, ◌>>=◌}
 use Rattle.image_defs.specs.Through.{through}
 use Rattle.order_defs.specs.Sorted.{sorted_names, rising_numbers}
+use Rattle.rx_time.specs.Moments.{unix_moment}
+use Rattle.rx_time.specs.declared.Moment.{Moment}
+use Rattle.rx_tree.specs.declared.times.Times.{Times}
 use Rattle.rx_tree.specs.PartValue.{PartValue}
 use Rattle.rx_tree.specs.declared.part.Role.{Role}
 use Rattle.rx_tree.specs.declared.part.Role.TheVariants as roles
@@ -74,12 +77,30 @@ inode_parts sup runs inode = through (section_part sup) (record { parts = []; ru
 
 -- ---- files
 
+-- when a file was made, which only UFS2 says
+abbrev pub birth_of : Super → Inode → Option Moment
+birth_of sup inode = if sup.version == 2 then Some (unix_moment inode.birth) else None
+
+-- the times of an inode
+abbrev pub times_of : Super → Inode → Times
+times_of sup inode = record {
+  modified = Some (unix_moment inode.mtime);
+  changed = Some (unix_moment inode.ctime);
+  accessed = Some (unix_moment inode.atime);
+  created = birth_of sup inode;
+}
+
 -- the file of an inode of a number in a volume, with these paths and parts
 abbrev pub file_of : Super → ℕ → ℕ → Inode → List (List ℕ) → List PartValue → FileEntry
 file_of sup volume number inode paths parts = record {
   id = record { volume = volume; number = number };
   kind = kind_of inode;
   names = sorted_names paths;
+  mode = Some inode.mode;
+  links = Some inode.nlink;
+  uid = Some inode.uid;
+  gid = Some inode.gid;
+  times = times_of sup inode;
   parts = parts;
 }
 
