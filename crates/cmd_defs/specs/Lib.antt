@@ -4,7 +4,3 @@ pub mod Outcome
 pub mod Calls
 pub mod PlanCommand
 pub mod PlanAnswerLaw
-pub mod JournalFacts
-pub mod RedactCommand
-pub mod ResumeCommand
-pub mod ReportCommand

@@ -2,15 +2,13 @@
 use Rattle.std.specs.Prelude.{ℕ, Option, Some, None, List}
 use Rattle.disk_defs.specs.Count.{Rose}
 use Rattle.cmd_defs.specs.declared.status.Status.{Status}
-use Rattle.cmd_defs.specs.declared.status.Status.TheVariants.{Done, Usage, PlanRefused, JournalOpen, JournalRefused, DeviceFault, SourceFault, SinkFault, NoMemory, NotBuilt}
+use Rattle.cmd_defs.specs.declared.status.Status.TheVariants.{Done, Usage, PlanRefused, DeviceFault, SourceFault, SinkFault, NoMemory, NotBuilt}
 
 -- the statuses that tell of the words, the texts and the disk alone: no fault, and no want of memory
 abbrev pub IsAnswer : Status → Type 0
 IsAnswer Done = Unit {0}
 IsAnswer Usage = Unit {0}
 IsAnswer (PlanRefused refusal) = Unit {0}
-IsAnswer JournalOpen = Unit {0}
-IsAnswer (JournalRefused refusal) = Unit {0}
 IsAnswer DeviceFault = ⊥
 IsAnswer SourceFault = ⊥
 IsAnswer SinkFault = ⊥
@@ -22,8 +20,6 @@ abbrev pub IsSilent : Status → Type 0
 IsSilent Done = ⊥
 IsSilent Usage = Unit {0}
 IsSilent (PlanRefused refusal) = Unit {0}
-IsSilent JournalOpen = Unit {0}
-IsSilent (JournalRefused refusal) = Unit {0}
 IsSilent DeviceFault = Unit {0}
 IsSilent SourceFault = Unit {0}
 IsSilent SinkFault = ⊥
