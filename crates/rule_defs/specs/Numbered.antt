@@ -1,5 +1,6 @@
--- How rules are numbered.
-use Rattle.std.specs.Prelude.{◌≡◌, ℕ, ◌+◌, List, [], ◌∷◌}
+-- How rules are numbered, and how many there are.
+use Rattle.std.specs.Prelude.{◌≡◌, ℕ, ◌+◌, ◌≤◌, List, [], ◌∷◌, length}
+use Rattle.rx_ranges.specs.declared.plan.TheConstants.{MAX_RULE}
 use Rattle.rule_defs.specs.declared.Rule.{Rule}
 
 -- rules are numbered one by one, the first with this number
@@ -10,3 +11,7 @@ AreNumberedFrom number (rule ∷ rules) = (rule.number ≡ number) × AreNumbere
 -- the rules of a text are numbered from 1
 abbrev pub AreNumbered : List Rule → Type 0
 AreNumbered rules = AreNumberedFrom 1 rules
+
+-- a text has at most as many rules as the greatest number of a rule
+abbrev pub AreFew : List Rule → Type 0
+AreFew rules = length rules ≤ MAX_RULE

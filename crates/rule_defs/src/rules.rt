@@ -1,11 +1,11 @@
 //! Lists of rules.
 ghost use Rattle.std.specs.Prelude.{◌≡◌};
-ghost use Rattle.rule_defs.specs.Numbered.{AreNumbered};
+ghost use Rattle.rule_defs.specs.Numbered.{AreNumbered, AreFew};
 
 use crate::Rule;
 use std::marker::Model;
 
-/// The rules of a text, numbered from 1 in order.
+/// The rules of a text, numbered from 1 in order: at most 1,000.
 #[derive(Debug, Drop)]
 pub struct Rules {
     rules: Vec<Rule>,
@@ -14,19 +14,20 @@ pub struct Rules {
 impl Model for Rules {
     ghost use Rattle.std.specs.Prelude.{List};
     ghost use Rattle.rule_defs.specs.declared.Rule.{Rule};
-    ghost use Rattle.rule_defs.specs.Numbered.{AreNumbered};
+    ghost use Rattle.rule_defs.specs.Numbered.{AreNumbered, AreFew};
 
     ghost Value = { List Rule };
 
     ghost view = { λ r. r.rules.items };
 
-    ghost invariant = { λ r. AreNumbered r.rules.items };
+    ghost invariant = { λ r. AreNumbered r.rules.items × AreFew r.rules.items };
 }
 
 impl Rules {
     /// These rules.
     pub fn from_vec(items: Vec<Rule>) -> Self
-        requires { AreNumbered items.items }
+        requires numbered { AreNumbered items.items }
+        requires few { AreFew items.items }
         ensures { result ≡ items.items }
     {
         Rules { rules: items }
@@ -36,6 +37,7 @@ impl Rules {
     pub fn items(&self) -> &[Rule]
         ensures items { result.now ≡ self.now }
         ensures numbered { AreNumbered self.now }
+        ensures few { AreFew self.now }
     {
         self.rules.as_slice()
     }
