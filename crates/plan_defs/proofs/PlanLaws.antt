@@ -20,7 +20,6 @@ use Rattle.range_defs.proofs.ClaimLaws.{EndsBy, painted-past, same_as_longest_cl
 use Rattle.rx_ranges.specs.declared.pieces.PieceKind.{PieceKind}
 use Rattle.rx_ranges.specs.declared.pieces.PieceKind.TheVariants.{Disk, Zero}
 use Rattle.rx_ranges.specs.declared.plan.Listed.{Listed}
-use Rattle.rx_ranges.specs.declared.plan.ListKind.TheVariants as kinds
 use Rattle.rx_tree.specs.declared.part.Role.{Role}
 use Rattle.rx_tree.specs.declared.part.Role.TheVariants as roles
 use Rattle.rx_tree.specs.declared.file.FileEntry.{FileEntry}
@@ -36,7 +35,7 @@ use Rattle.rule_defs.specs.Settle.{holds, is_plain_file, settling_rule, disk_ran
 use Rattle.plan_defs.specs.Plan.{all_claims, is_painted, planned_at, is_planned, part_ranges, touched_ranges, touches_planned, lines_of, plan_of, guarded_byte}
 
 -- what holds of all that each element gives holds of all that the list gives
-All-flat_map : {X Y : Type 0} (P : X → Type 0) (Q : Y → Type 0) (f : X → List Y) → ((x : X) → P x → All Q (f x))
+pub All-flat_map : {X Y : Type 0} (P : X → Type 0) (Q : Y → Type 0) (f : X → List Y) → ((x : X) → P x → All Q (f x))
     → (xs : List X) → All P xs → All Q (flat_map f xs)
 All-flat_map P Q f each [] all = All-nil Q
 All-flat_map P Q f each (x ∷ xs) all =

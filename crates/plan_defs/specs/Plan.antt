@@ -1,11 +1,13 @@
 -- The plan of a tree and its rules: which bytes are filled, by which rule and with what, and which files are listed.
-use Rattle.std.specs.Prelude.{ℕ, Bool, ◌&&◌, is_some, if◌then◌else◌, nat_lt, Option, Some, None, List, [], ◌++◌, map}
+use Rattle.std.specs.Prelude.{◌≡◌, ℕ, ◌<◌, Bool, ◌&&◌, is_some, if◌then◌else◌, nat_lt, Option, Some, None, List, [], ◌++◌, length, map}
 use Rattle.std.specs.List.{list_any, flat_map}
 use Rattle.std.specs.Option.{option_map}
+use Rattle.std.specs.Str.{IsUtf8}
 use Rattle.range_defs.specs.declared.Range.{Range}
 use Rattle.range_defs.specs.declared.Claim.{Claim}
 use Rattle.range_defs.specs.Places.{covers, least_below}
 use Rattle.range_defs.specs.Claims.{painted, longest_claims}
+use Rattle.rx_ranges.specs.Path.{IsPath}
 use Rattle.rx_ranges.specs.declared.plan.Plan.{Plan}
 use Rattle.rx_ranges.specs.declared.plan.Listed.{Listed}
 use Rattle.rx_ranges.specs.declared.plan.ListKind.{ListKind}
@@ -46,6 +48,10 @@ touches_planned len planned file = is_some (least_below (λ byte. planned byte &
 -- a line for each name of a file
 abbrev pub lines_for : ListKind → ℕ → FileEntry → List Listed
 lines_for kind rule file = map (λ name. record { kind = kind; rule = rule; path = name }) file.names
+
+-- what a line lists is a path, in UTF-8
+abbrev pub HasPath : Listed → Type 0
+HasPath line = IsPath line.path × IsUtf8 line.path
 
 -- whether claims have any byte
 abbrev pub claim_some : List Claim → Bool
@@ -88,3 +94,8 @@ guarded_byte tree rules =
 -- the number of the rule by which a byte is planned, if it is planned
 abbrev pub planning_rule : List Rule → TreeValue → ℕ → Option ℕ
 planning_rule rules tree byte = option_map (λ paint. paint.0) (planned_at rules tree.files byte)
+
+-- the plan fills no byte of the guard, and has more ranges than this number
+abbrev pub HasMoreRanges : ℕ → TreeValue → List Rule → Type 0
+HasMoreRanges number tree rules =
+    (guarded_byte tree rules ≡ None) × (number < length (plan_of tree rules).ranges)
