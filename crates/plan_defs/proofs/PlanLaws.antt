@@ -15,7 +15,7 @@ use Rattle.range_defs.specs.AnyByte.{TellsIfAny}
 use Rattle.range_defs.proofs.AnyByte.{same_as_any_below}
 use Rattle.range_defs.proofs.LeastLaws.{same_as_least_below}
 use Rattle.range_defs.specs.declared.TheConstants.{REACH}
-use Rattle.range_defs.specs.Claims.{painted, IsFillMap, HaveOneFill}
+use Rattle.range_defs.specs.Claims.{painted, longest_claims, IsFillMap, HaveOneFill}
 use Rattle.range_defs.proofs.ClaimLaws.{EndsBy, painted-past, same_as_longest_claims, ends_where_painted}
 use Rattle.rx_ranges.specs.declared.pieces.PieceKind.{PieceKind}
 use Rattle.rx_ranges.specs.declared.pieces.PieceKind.TheVariants.{Disk, Zero}
@@ -182,13 +182,20 @@ all_claims-in_reach tree rules files claims within files_are claims_are =
     All-same (λ claim. EndsInReach claim.range) claims (all_claims rules tree.files) (claims_are ∙ ap (all_claims rules) files_are)
     (claims-in_reach tree.image_len (all_claims rules tree.files) within.in_reach (claims-within tree.image_len rules tree.files within.files))
 
--- a map that paints as the claims on a tree's files do is the plan's, and ends where the image does
+-- a map that paints as the claims on a tree's files do ends where the image does
 pub ranges-within : (tree : TreeValue) (rules : List Rule) (ranges : List Claim) → IsWithin tree → IsFillMap ranges
     → ((byte : ℕ) → painted ranges byte ≡ planned_at rules tree.files byte) → All (EndsBy tree.image_len) ranges
 ranges-within tree rules ranges within kept same =
     ends_where_painted ranges tree.image_len kept
     (λ byte behind. same byte ∙ painted-past (all_claims rules tree.files) tree.image_len byte
     (claims-within tree.image_len rules tree.files within.files) behind)
+
+-- and it is the plan's
+pub ranges-are : (tree : TreeValue) (rules : List Rule) (ranges : List Claim) → IsWithin tree → IsFillMap ranges
+    → ((byte : ℕ) → painted ranges byte ≡ planned_at rules tree.files byte) → ranges ≡ (plan_of tree rules).ranges
+unfolding plan_of
+ranges-are tree rules ranges within kept same =
+    same_as_longest_claims (planned_at rules tree.files) tree.image_len ranges kept same (ranges-within tree rules ranges within kept same)
 
 -- the parts of a plan, and that they are the plan
 pub plan-by_parts : (tree : TreeValue) (rules : List Rule) (ranges : List Claim) (lines : List Listed)
@@ -197,7 +204,7 @@ pub plan-by_parts : (tree : TreeValue) (rules : List Rule) (ranges : List Claim)
     → record { image_len = tree.image_len; ranges = ranges; listing = lines } ≡ plan_of tree rules
 unfolding plan_of
 plan-by_parts tree rules ranges lines within kept same lines_are =
-    let ranges_are = same_as_longest_claims (planned_at rules tree.files) tree.image_len ranges kept same (ranges-within tree rules ranges within kept same) in
+    let ranges_are : ranges ≡ longest_claims (planned_at rules tree.files) 0 tree.image_len = ranges-are tree rules ranges within kept same in
     let set_is : is_painted ranges ≡ is_planned rules tree.files = fun_ext (λ byte. ap is_some (same byte)) in
     let listing_is : lines ≡ flat_map (lines_of rules tree.image_len (is_planned rules tree.files)) tree.files =
     lines_are ∙ ap (λ (set : ℕ → Bool). flat_map (lines_of rules tree.image_len set) tree.files) set_is in

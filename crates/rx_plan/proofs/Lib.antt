@@ -1,3 +1,3 @@
 pub mod FileLines
-pub mod LeastGuarded
 pub mod RangesMet
+pub mod Refusals

@@ -1,7 +1,8 @@
 //! Makes the plan of a tree and its rules.
 //!
 //! Each file is settled once, by the first rule that holds of it. The claims make the ranges of the plan, and the files make its
-//! listing. A plan that would fill a byte of the guard is refused with the least such byte and its rule.
+//! listing. A plan that would fill a byte of the guard is refused with the least such byte and its rule, and then one that has
+//! more than 1,000,000 ranges: a journal can hold each plan that is made.
 //!
 //!     let plan = make_plan(alloc, &mut store, &tree, &rules)?;
 #![tactic(auto)]
@@ -10,7 +11,9 @@ ghost use Rattle.std.specs.Prelude.{◌≡◌, ◌&&◌, ℕ, Some, None, IfOk, 
 ghost use Rattle.std.specs.Option.{option_map};
 ghost use Rattle.range_defs.specs.Claims.{painted, ranges_of};
 ghost use Rattle.range_defs.specs.Places.{covers, IsLeast};
-ghost use Rattle.plan_defs.specs.Plan.{plan_of, guarded_byte, planning_rule};
+ghost use Rattle.rx_ranges.specs.PlanChecks.{IsPlan};
+ghost use Rattle.fault_defs.specs.declared.Bound.{Bound as BoundValue};
+ghost use Rattle.plan_defs.specs.Plan.{plan_of, guarded_byte, planning_rule, HasMoreRanges};
 ghost use Rattle.rx_plan.specs.declared.PlanFault.TheVariants.{NoMemory};
 
 mod listing;
@@ -21,8 +24,8 @@ mod tests;
 use crate::listing::listing_of;
 use crate::settling::{Settled, settle_files};
 use rule_defs::Rules;
-use rx_ranges::{Claim, FillMap, Listing, Plan, Range, RangeList};
-use rx_store::Store;
+use rx_ranges::{Claim, FillMap, Listing, MAX_RANGES, Plan, Range, RangeList};
+use rx_store::{Bound, Store};
 use rx_tree::Tree;
 use std::alloc::{AllocError, Global};
 
@@ -31,6 +34,8 @@ use std::alloc::{AllocError, Global};
 pub enum PlanFault {
     /// It would fill this byte of the guard, the least one, by this rule.
     MeetsGuard { at: u64, rule: u32 },
+    /// It has more of something than the limit, which this number is.
+    Limit(Bound, u64),
     /// There was no memory.
     NoMemory,
 }
@@ -70,7 +75,7 @@ fn guarded(guard: &RangeList, fills: &FillMap, planned: &RangeList) -> Option<(u
 }
 
 /// The plan of a tree and its rules. It is refused where it would fill a byte of the guard, the least of which is named
-/// with its rule. No rule reads content yet, so the store isn't called.
+/// with its rule, and then where it has more than 1,000,000 ranges. No rule reads content yet, so the store isn't called.
 pub fn make_plan<S: Store>(
     alloc: Global,
     store: &mut S,
@@ -78,9 +83,12 @@ pub fn make_plan<S: Store>(
     rules: &Rules,
 ) -> Result<Plan, PlanFault>
     ensures plan { IfOk result (λ plan. plan ≡ plan_of tree.now rules.now) }
+    ensures is_plan { IfOk result IsPlan }
     ensures unguarded { OnOk result (guarded_byte tree.now rules.now ≡ None) }
     ensures guarded { (at rule : ℕ) → IsErrOf result (PlanFault.MeetsGuard at rule)
         → (guarded_byte tree.now rules.now ≡ Some at) × (planning_rule rules.now tree.now at ≡ Some rule) }
+    ensures limit { (bound : BoundValue) (number : ℕ) → IsErrOf result (PlanFault.Limit bound number)
+        → (bound ≡ Bound.Ranges) × (number ≡ MAX_RANGES) × HasMoreRanges number tree.now rules.now }
     ensures idle { store.new ≡ store.old }
 {
     let Settled { claims, listed } = settle_files(alloc, rules.items(), tree.files.items())?;
@@ -88,6 +96,9 @@ pub fn make_plan<S: Store>(
     let planned = filled_bytes(alloc, &ranges)?;
     if let Some((at, rule)) = guarded(&tree.guard, &ranges, &planned) {
         return Err(PlanFault::MeetsGuard { at, rule });
+    }
+    if ranges.items().len() > MAX_RANGES {
+        return Err(PlanFault::Limit(Bound::Ranges, MAX_RANGES as u64));
     }
     let lines = listing_of(alloc, tree, &listed, &ranges)?;
     Ok(Plan {

@@ -1,13 +1,14 @@
 //! Which names of files are listed.
-ghost use Rattle.std.specs.Prelude.{◌≡◌, ◌++◌, ◌&&◌, ℕ, All, List, IfOk, is_some, length, map};
+ghost use Rattle.std.specs.Prelude.{◌≡◌, ◌++◌, ◌&&◌, ℕ, All, List, IfOk, OnOk, is_some, length, map};
 ghost use Rattle.std.specs.List.{flat_map};
 ghost use Rattle.range_defs.specs.AnyByte.{TellsIfAny};
 ghost use Rattle.range_defs.specs.Claims.{painted};
 ghost use Rattle.range_defs.specs.Places.{covers, EndsInReach};
 ghost use Rattle.range_defs.specs.declared.TheConstants.{REACH};
+ghost use Rattle.rx_ranges.specs.Path.{IsPath};
 ghost use Rattle.rx_tree.specs.Within.{ArePartsWithin};
 ghost use Rattle.rule_defs.specs.declared.Rule.{Rule as RuleValue};
-ghost use Rattle.plan_defs.specs.Plan.{is_painted, part_ranges, touches_planned, file_lines, listed_as, lines_of};
+ghost use Rattle.plan_defs.specs.Plan.{is_painted, part_ranges, touches_planned, file_lines, listed_as, lines_of, HasPath};
 
 use crate::settling::push_disk_ranges;
 use rx_ranges::{FillMap, ListKind, Listed, NoMemory, Range, Text};
@@ -57,8 +58,11 @@ fn push_lines(
     rule: u32,
     names: &[Text],
 ) -> Result<(), NoMemory>
-    ensures { IfOk result (λ _. lines.new.items
+    requires listed { All HasPath lines.old.items }
+    requires paths { All IsPath names.now }
+    ensures lines { IfOk result (λ _. lines.new.items
         ≡ lines.old.items ++ map (λ name. record { kind = kind; rule = rule; path = name }) names.now) }
+    ensures paths { OnOk result (All HasPath lines.new.items) }
 {
     for name in names {
         lines.push(Listed {
@@ -78,9 +82,11 @@ fn push_lines_of(
     fills: &FillMap,
     file: &FileEntry,
 ) -> Result<(), NoMemory>
-    requires { ArePartsWithin REACH file.now.parts }
-    ensures { IfOk result (λ _. (len : ℕ) → ArePartsWithin len file.now.parts
+    requires within { ArePartsWithin REACH file.now.parts }
+    requires listed { All HasPath lines.old.items }
+    ensures lines { IfOk result (λ _. (len : ℕ) → ArePartsWithin len file.now.parts
         → lines.new.items ≡ lines.old.items ++ file_lines len (is_painted fills.now) listed file.now) }
+    ensures paths { OnOk result (All HasPath lines.new.items) }
 {
     if let Some(rule) = listed {
         return push_lines(alloc, lines, ListKind::File, rule, file.names.items());
@@ -99,8 +105,9 @@ pub(crate) fn listing_of(
     fills: &FillMap,
 ) -> Result<Vec<Listed>, NoMemory>
     requires { length listed.now ≡ length tree.now.files }
-    ensures { IfOk result (λ lines. (rules : List RuleValue) → listed.now ≡ map (listed_as rules) tree.now.files
+    ensures lines { IfOk result (λ lines. (rules : List RuleValue) → listed.now ≡ map (listed_as rules) tree.now.files
         → lines.items ≡ flat_map (lines_of rules tree.now.image_len (is_painted fills.now)) tree.now.files) }
+    ensures paths { IfOk result (λ lines. All HasPath lines.items) }
 {
     let files = tree.files.items();
     let mut lines = Vec::new(alloc);
