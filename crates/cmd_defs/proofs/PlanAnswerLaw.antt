@@ -1,14 +1,16 @@
 -- Laws behind PlanAnswerLaw: a text and an image have one answer of `plan`, and a status that says so is that answer, or a fault or want of memory.
-use Rattle.std.proofs.Common.{◌≡◌, refl, ap, ℕ, Option, Some, None, List, sym, ◌∙◌, ◌⊎◌, inl, inr}
+use Rattle.std.proofs.Common.{◌≡◌, refl, ap, ℕ, ◌≤◌, length, arith, Option, Some, None, List, sym, ◌∙◌, ◌⊎◌, inl, inr}
+use Rattle.fault_defs.specs.declared.Bound.{Bound}
+use Rattle.rx_ranges.specs.declared.plan.TheConstants.{MAX_RANGES}
 use Rattle.rule_defs.specs.declared.Rule.{Rule}
 use Rattle.rule_defs.proofs.ReadsLaws.{one_list_of_rules}
 use Rattle.rx_tree.specs.TreeValue.{TreeValue}
-use Rattle.plan_defs.specs.Plan.{guarded_byte, planning_rule}
+use Rattle.plan_defs.specs.Plan.{plan_of, guarded_byte, planning_rule}
 use Rattle.cmd_defs.specs.declared.status.Status.{Status}
-use Rattle.cmd_defs.specs.declared.status.Status.TheVariants.{Done, Usage, PlanRefused, DeviceFault, SourceFault, SinkFault, NoMemory, NotBuilt}
+use Rattle.cmd_defs.specs.declared.status.Status.TheVariants.{Done, Usage, PlanRefused, DeviceFault, SourceFault, SinkFault, Limit, NoMemory, NotBuilt}
 use Rattle.cmd_defs.specs.declared.status.PlanRefusal.TheVariants.{MeetsGuard}
 use Rattle.cmd_defs.specs.Outcome.{IfBothTold}
-use Rattle.cmd_defs.specs.PlanCommand.{MeetsForms, HasReport, FillsGuard, PlanSays, PlanAnswers}
+use Rattle.cmd_defs.specs.PlanCommand.{MeetsForms, HasReport, FillsGuard, PassesRanges, PlanSays, PlanAnswers}
 use Rattle.cmd_defs.specs.PlanAnswerLaw.{PlanHasOneAnswer}
 
 -- what a text and an image say of rules and a tree is one thing
@@ -22,6 +24,21 @@ done_or_guarded : (text image : List ℕ) (byte number : ℕ) → HasReport text
 done_or_guarded text image byte number plan filled =
     let both : None ≡ Some byte = sym plan.3 ∙ one_value text image guarded_byte plan.0 filled.0 plan.1 filled.1 plan.2 filled.2 ∙ filled.3 in
     cc
+
+done_or_limit : (text image : List ℕ) (bound : Bound) (number : ℕ) → HasReport text image (λ written. Unit {0}) → PassesRanges bound number text image → ⊥
+done_or_limit text image bound number plan passed =
+    let few : length (plan_of plan.1 plan.0).ranges ≤ MAX_RANGES = plan.4 in
+    let same = one_value text image (λ tree rules. length (plan_of tree rules).ranges) plan.0 passed.0 plan.1 passed.1 plan.2 passed.2 in
+    omega (arith, few, same, passed.4, passed.5.1)
+
+guarded_or_limit : (text image : List ℕ) (byte rule : ℕ) (bound : Bound) (number : ℕ) → FillsGuard byte rule text image
+    → PassesRanges bound number text image → ⊥
+guarded_or_limit text image byte rule bound number filled passed =
+    let both : None ≡ Some byte = sym passed.5.0 ∙ one_value text image guarded_byte passed.0 filled.0 passed.1 filled.1 passed.2 filled.2 ∙ filled.3 in
+    cc
+
+same_limit : (text image : List ℕ) (a b : Bound) (m n : ℕ) → PassesRanges a m text image → PassesRanges b n text image → Limit a m ≡ Limit b n
+same_limit text image a b m n x y = ap (λ bound. Limit bound m) (x.3 ∙ sym y.3) ∙ ap (Limit b) (x.4 ∙ sym y.4)
 
 same_refusal : (text image : List ℕ) (byte number other rule : ℕ) → FillsGuard byte number text image → FillsGuard other rule text image
     → PlanRefused (MeetsGuard byte number) ≡ PlanRefused (MeetsGuard other rule)
@@ -40,6 +57,13 @@ one_answer text image Done NotBuilt x y = absurd (y.1 x.1.0 x.1.1 x.1.2)
 one_answer text image (PlanRefused (MeetsGuard byte number)) Done x y = absurd (done_or_guarded text image byte number y.1 x.1)
 one_answer text image (PlanRefused (MeetsGuard byte number)) (PlanRefused (MeetsGuard other rule)) x y = same_refusal text image byte number other rule x.1 y.1
 one_answer text image (PlanRefused (MeetsGuard byte number)) NotBuilt x y = absurd (y.1 x.1.0 x.1.1 x.1.2)
+one_answer text image Done (Limit bound limit) x y = absurd (done_or_limit text image bound limit x.1 y.1)
+one_answer text image (Limit bound limit) Done x y = absurd (done_or_limit text image bound limit y.1 x.1)
+one_answer text image (PlanRefused (MeetsGuard byte number)) (Limit bound limit) x y = absurd (guarded_or_limit text image byte number bound limit x.1 y.1)
+one_answer text image (Limit bound limit) (PlanRefused (MeetsGuard byte number)) x y = absurd (guarded_or_limit text image byte number bound limit y.1 x.1)
+one_answer text image (Limit bound limit) (Limit other most) x y = same_limit text image bound other limit most x.1 y.1
+one_answer text image (Limit bound limit) NotBuilt x y = absurd (y.1 x.1.0 x.1.1 x.1.2)
+one_answer text image NotBuilt (Limit bound limit) x y = absurd (x.1 y.1.0 y.1.1 y.1.2)
 one_answer text image NotBuilt Done x y = absurd (x.1 y.1.0 y.1.1 y.1.2)
 one_answer text image NotBuilt (PlanRefused (MeetsGuard byte number)) x y = absurd (x.1 y.1.0 y.1.1 y.1.2)
 one_answer text image NotBuilt NotBuilt x y = refl
@@ -61,10 +85,12 @@ pub is_the_answer : (text image : Option (List ℕ)) (status : Status) (store ru
 is_the_answer None image status store rules out W P says device source sink answer = tt
 is_the_answer (Some text) None status store rules out W P says device source sink answer = tt
 is_the_answer (Some text) (Some image) Done store rules out W P says device source sink answer =
-    λ asked a b c. inl (one_answer text image Done answer (tt, (says.0, says.1, says.2, says.3, tt)) asked)
+    λ asked a b c. inl (one_answer text image Done answer (tt, (says.0, says.1, says.2, says.3, says.4, tt)) asked)
 is_the_answer (Some text) (Some image) Usage store rules out W P says device source sink answer = λ asked a b c. absurd says
 is_the_answer (Some text) (Some image) (PlanRefused (MeetsGuard byte number)) store rules out W P says device source sink answer =
     λ asked a b c. inl (one_answer text image (PlanRefused (MeetsGuard byte number)) answer (tt, says) asked)
+is_the_answer (Some text) (Some image) (Limit bound number) store rules out W P says device source sink answer =
+    λ asked a b c. inl (one_answer text image (Limit bound number) answer (tt, says) asked)
 is_the_answer (Some text) (Some image) DeviceFault store rules out W P says device source sink answer = λ asked a b c. absurd (a (device refl))
 is_the_answer (Some text) (Some image) SourceFault store rules out W P says device source sink answer = λ asked a b c. absurd (b (source refl))
 is_the_answer (Some text) (Some image) SinkFault store rules out W P says device source sink answer = λ asked a b c. absurd (c (sink refl))

@@ -2,7 +2,7 @@
 use Rattle.std.specs.Prelude.{ℕ, Option, Some, None, List}
 use Rattle.disk_defs.specs.Count.{Rose}
 use Rattle.cmd_defs.specs.declared.status.Status.{Status}
-use Rattle.cmd_defs.specs.declared.status.Status.TheVariants.{Done, Usage, PlanRefused, DeviceFault, SourceFault, SinkFault, NoMemory, NotBuilt}
+use Rattle.cmd_defs.specs.declared.status.Status.TheVariants.{Done, Usage, PlanRefused, DeviceFault, SourceFault, SinkFault, Limit, NoMemory, NotBuilt}
 
 -- the statuses that tell of the words, the texts and the disk alone: no fault, and no want of memory
 abbrev pub IsAnswer : Status → Type 0
@@ -12,6 +12,7 @@ IsAnswer (PlanRefused refusal) = Unit {0}
 IsAnswer DeviceFault = ⊥
 IsAnswer SourceFault = ⊥
 IsAnswer SinkFault = ⊥
+IsAnswer (Limit bound number) = Unit {0}
 IsAnswer NoMemory = ⊥
 IsAnswer NotBuilt = Unit {0}
 
@@ -23,6 +24,7 @@ IsSilent (PlanRefused refusal) = Unit {0}
 IsSilent DeviceFault = Unit {0}
 IsSilent SourceFault = Unit {0}
 IsSilent SinkFault = ⊥
+IsSilent (Limit bound number) = Unit {0}
 IsSilent NoMemory = Unit {0}
 IsSilent NotBuilt = Unit {0}
 

@@ -1,14 +1,17 @@
 -- The command `plan`: what each status says of the rule text and the image, and of what was written.
-use Rattle.std.specs.Prelude.{◌≡◌, ℕ, Some, None, Ok, List}
+use Rattle.std.specs.Prelude.{◌≡◌, ℕ, ◌≤◌, Some, None, Ok, List, length}
+use Rattle.fault_defs.specs.declared.Bound.{Bound}
+use Rattle.fault_defs.specs.declared.Bound.TheVariants.{Ranges}
+use Rattle.rx_ranges.specs.declared.plan.TheConstants.{MAX_RANGES}
 use Rattle.rule_defs.specs.declared.Rule.{Rule}
 use Rattle.rule_defs.specs.Reads.{Reads}
 use Rattle.rx_tree.specs.TreeValue.{TreeValue}
 use Rattle.volume_defs.specs.FirstTree.{first_tree}
-use Rattle.plan_defs.specs.Plan.{plan_of, guarded_byte, planning_rule}
+use Rattle.plan_defs.specs.Plan.{plan_of, guarded_byte, planning_rule, HasMoreRanges}
 use Rattle.text_defs.specs.Report.{report}
 use Rattle.text_defs.specs.declared.ReportState.TheVariants.{Planned}
 use Rattle.cmd_defs.specs.declared.status.Status.{Status}
-use Rattle.cmd_defs.specs.declared.status.Status.TheVariants.{Done, Usage, PlanRefused, DeviceFault, SourceFault, SinkFault, NoMemory, NotBuilt}
+use Rattle.cmd_defs.specs.declared.status.Status.TheVariants.{Done, Usage, PlanRefused, DeviceFault, SourceFault, SinkFault, Limit, NoMemory, NotBuilt}
 use Rattle.cmd_defs.specs.declared.status.PlanRefusal.TheVariants.{MeetsGuard}
 use Rattle.cmd_defs.specs.Outcome.{IsAnswer}
 
@@ -31,11 +34,17 @@ FillsGuard byte number text image =
     (rules : List Rule) × (tree : TreeValue) × MeetsForms text image rules tree × (guarded_byte tree rules ≡ Some byte)
     × (planning_rule rules tree byte ≡ Some number)
 
--- the text and the image have a plan that fills no byte of the guard, and this holds of its report
+-- the plan fills no byte of the guard and has too many ranges: this limit was passed
+abbrev pub PassesRanges : Bound → ℕ → List ℕ → List ℕ → Type 0
+PassesRanges bound number text image =
+    (rules : List Rule) × (tree : TreeValue) × MeetsForms text image rules tree × (bound ≡ Ranges) × (number ≡ MAX_RANGES)
+    × HasMoreRanges number tree rules
+
+-- the text and the image have a plan that fills no byte of the guard and has few enough ranges, and this holds of its report
 abbrev pub HasReport : List ℕ → List ℕ → (List ℕ → Type 0) → Type 0
 HasReport text image P =
     (rules : List Rule) × (tree : TreeValue) × MeetsForms text image rules tree × (guarded_byte tree rules ≡ None)
-    × P (report (plan_of tree rules) Planned)
+    × (length (plan_of tree rules).ranges ≤ MAX_RANGES) × P (report (plan_of tree rules) Planned)
 
 -- What a status of `plan` says of the rule text and the image, in the order of the refusals. The two facts are of what was
 -- written: this text, and some first bytes of it. A status that `plan` never gives has no case that holds.
@@ -45,6 +54,7 @@ PlanSays SourceFault text image Wrote BeganWith = Unit {0}
 PlanSays NotBuilt text image Wrote BeganWith = HasNoForm text image
 PlanSays DeviceFault text image Wrote BeganWith = SaysRules text
 PlanSays (PlanRefused (MeetsGuard byte number)) text image Wrote BeganWith = FillsGuard byte number text image
+PlanSays (Limit bound number) text image Wrote BeganWith = PassesRanges bound number text image
 PlanSays SinkFault text image Wrote BeganWith = HasReport text image BeganWith
 PlanSays Done text image Wrote BeganWith = HasReport text image Wrote
 PlanSays NoMemory text image Wrote BeganWith = Unit {0}

@@ -1,7 +1,9 @@
 -- The code and the line of a status.
 use Rattle.std.specs.Prelude.{ℕ, List, [], ◌++◌, codes, decimal}
+use Rattle.fault_defs.specs.declared.Bound.{Bound}
+use Rattle.fault_defs.specs.declared.Bound.TheVariants as bounds
 use Rattle.cmd_defs.specs.declared.status.Status.{Status}
-use Rattle.cmd_defs.specs.declared.status.Status.TheVariants.{Done, Usage, PlanRefused, DeviceFault, SourceFault, SinkFault, NoMemory, NotBuilt}
+use Rattle.cmd_defs.specs.declared.status.Status.TheVariants.{Done, Usage, PlanRefused, DeviceFault, SourceFault, SinkFault, Limit, NoMemory, NotBuilt}
 use Rattle.cmd_defs.specs.declared.status.PlanRefusal.{PlanRefusal}
 use Rattle.cmd_defs.specs.declared.status.PlanRefusal.TheVariants.{MeetsGuard}
 
@@ -13,6 +15,7 @@ code_of (PlanRefused refusal) = 7
 code_of DeviceFault = 10
 code_of SourceFault = 11
 code_of SinkFault = 12
+code_of (Limit bound number) = 13
 code_of NoMemory = 14
 code_of NotBuilt = 15
 
@@ -25,6 +28,26 @@ unfoldable pub refusal_line : PlanRefusal → List ℕ
 refusal_line (MeetsGuard place rule) =
     codes "dfredact: rule " ++ decimal rule ++ codes " would fill byte " ++ decimal place ++ codes " of the guard\n"
 
+-- the name of what is counted
+unfoldable pub bound_name : Bound → List ℕ
+bound_name bounds.Image = codes "Image"
+bound_name bounds.Slots = codes "Slots"
+bound_name bounds.Names = codes "Names"
+bound_name bounds.PathBytes = codes "PathBytes"
+bound_name bounds.Path = codes "Path"
+bound_name bounds.Depth = codes "Depth"
+bound_name bounds.Runs = codes "Runs"
+bound_name bounds.AttributeList = codes "AttributeList"
+bound_name bounds.RuleText = codes "RuleText"
+bound_name bounds.RuleLine = codes "RuleLine"
+bound_name bounds.Rules = codes "Rules"
+bound_name bounds.Ranges = codes "Ranges"
+bound_name bounds.Stream = codes "Stream"
+
+-- the line that says which limit was passed
+unfoldable pub limit_line : Bound → ℕ → List ℕ
+limit_line bound number = codes "dfredact: limit " ++ bound_name bound ++ codes " " ++ decimal number ++ codes " passed\n"
+
 -- the text that says a status with no operand
 unfoldable pub plain_text : Status → List ℕ
 plain_text Done = []
@@ -33,6 +56,7 @@ plain_text (PlanRefused refusal) = []
 plain_text DeviceFault = codes "image or journal failed"
 plain_text SourceFault = codes "rule text failed"
 plain_text SinkFault = codes "output failed"
+plain_text (Limit bound number) = []
 plain_text NoMemory = codes "out of memory"
 plain_text NotBuilt = codes "not built yet"
 
@@ -44,5 +68,6 @@ status_line (PlanRefused refusal) = refusal_line refusal
 status_line DeviceFault = program_line (plain_text DeviceFault)
 status_line SourceFault = program_line (plain_text SourceFault)
 status_line SinkFault = program_line (plain_text SinkFault)
+status_line (Limit bound number) = limit_line bound number
 status_line NoMemory = program_line (plain_text NoMemory)
 status_line NotBuilt = program_line (plain_text NotBuilt)

@@ -2,6 +2,8 @@
 ghost use Rattle.std.specs.Prelude.{◌≡◌};
 ghost use Rattle.cmd_defs.specs.Status.{code_of};
 
+use fault_defs::Bound;
+
 /// Why a plan is refused.
 #[derive(Clone, Copy, Debug, PartialEq, Eq)]
 pub enum PlanRefusal {
@@ -24,6 +26,8 @@ pub enum Status {
     SourceFault,
     /// The output failed.
     SinkFault,
+    /// There is more of something than the limit, which this number is.
+    Limit(Bound, u64),
     /// Memory ran out.
     NoMemory,
     /// The program can't do this yet.
@@ -42,6 +46,7 @@ impl Status {
             Status::DeviceFault => 10,
             Status::SourceFault => 11,
             Status::SinkFault => 12,
+            Status::Limit(_, _) => 13,
             Status::NoMemory => 14,
             Status::NotBuilt => 15,
         }
