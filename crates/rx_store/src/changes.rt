@@ -59,8 +59,8 @@ impl Model for Changes {
     } };
 
     ghost invariant = { λ changes. All (IsInLog changes.log.items) changes.records.items
-      × (vec_len changes.records ≤ changes.most_records) × (changes.most_records ≤ vec_capacity changes.records)
-      × (vec_len changes.log ≤ changes.most_bytes) × (changes.most_bytes ≤ vec_capacity changes.log) };
+        × (vec_len changes.records ≤ changes.most_records) × (changes.most_records ≤ vec_capacity changes.records)
+        × (vec_len changes.log ≤ changes.most_bytes) × (changes.most_bytes ≤ vec_capacity changes.log) };
 }
 
 impl Changes {

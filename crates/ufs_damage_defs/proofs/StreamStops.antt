@@ -178,8 +178,13 @@ module _ (image : List ℕ) (sup : Super) (stream : Stream) (has : HasPointers s
         let V : ℤ → Type 0 = λ v. IsVisited level (first + number * span sup level) (record { at = place + number * pointer_len sup.version; value = v }) in
         let N : ℕ → Type 0 = λ n. IsVisited level (first + n * span sup level) (record { at = place + n * pointer_len sup.version; value = pointer_at image sup place n }) in
         subst N same (subst V row.0 (subst A stands
-        (record { laid = laid; after = step.0; at = here sup stream.size (first + number * span sup level) laid come (subst B (sym same) inside); gives = step.1;
-          within = within_first image ranges (mapped_blocks level sup stream.size laid (record { at = at; value = value })) next step.0 step.1 within })))
+        (record {
+          laid = laid;
+          after = step.0;
+          at = here sup stream.size (first + number * span sup level) laid come (subst B (sym same) inside);
+          gives = step.1;
+          within = within_first image ranges (mapped_blocks level sup stream.size laid (record { at = at; value = value })) next step.0 step.1 within;
+        })))
     children_visit level first fragment (suc more) number (suc index) at bytes laid after stands row come below inside gives within =
         let place : ℕ = fragment_place sup (suc fragment) in
         let value : ℤ = signed_at sup.order (layout_of sup.version).pointer bytes 0 in

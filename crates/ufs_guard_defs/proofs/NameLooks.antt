@@ -100,7 +100,7 @@ module _ (image : List ℕ) (sup : Super) (volume : ℕ) (sound : wrong_field su
       has = sound_inode_of image sup volume root sound depth directory found
 
       module _ (good : IsGoodDirectory image sup directory.inode) (laid : Laid)
-        (gives : result_of image (stream_blocks sup (content_stream sup directory.inode) walk.runs) ≡ Ok laid) where
+          (gives : result_of image (stream_blocks sup (content_stream sup directory.inode) walk.runs) ≡ Ok laid) where
         abbrev AtBlock : List Block → Walk → Type 0
         AtBlock = AtBlocks image sup volume root sound depth directory found good (directory.number ∷ state.walked) (in_head directory.number state.walked) start laid.pieces
 

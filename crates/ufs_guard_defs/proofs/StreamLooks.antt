@@ -24,7 +24,7 @@ use Rattle.ufs_damage_defs.specs.StreamDamage.{StandsAt, first_mapped, IsUsed, D
 use Rattle.ufs_damage_defs.proofs.StreamDamage.{HasComeTo, there, moves_on, moves_by, children_move, same_block, IsNext}
 
 module _ (image : List ℕ) (sup : Super) (stream : Stream) (has : HasPointers sup) (P : Range → Type 0)
-  (leads_to : (level first fragment : ℕ) (pointer : Pointer) → IsUsed image sup stream (suc level) first pointer → pointer.value ≡ pos (suc fragment) → P (record { at = fragment_place sup (suc fragment); len = block_size sup })) where
+    (leads_to : (level first fragment : ℕ) (pointer : Pointer) → IsUsed image sup stream (suc level) first pointer → pointer.value ≡ pos (suc fragment) → P (record { at = fragment_place sup (suc fragment); len = block_size sup })) where
   counted_looks : (laid : Laid) → LooksAt P image (counted_runs laid)
   counted_looks laid = looks_check P image (nat_le (runs_of laid) most_runs) (Limit Runs most_runs) (λ x. Done laid) (λ few. looks_done P image laid)
 
