@@ -1,1 +1,2 @@
 pub mod PlanAnswerLaw
+pub mod JournalAnswers

@@ -7,7 +7,7 @@ use Rattle.rule_defs.proofs.ReadsLaws.{one_list_of_rules}
 use Rattle.rx_tree.specs.TreeValue.{TreeValue}
 use Rattle.plan_defs.specs.Plan.{plan_of, guarded_byte, planning_rule}
 use Rattle.cmd_defs.specs.declared.status.Status.{Status}
-use Rattle.cmd_defs.specs.declared.status.Status.TheVariants.{Done, Usage, PlanRefused, DeviceFault, SourceFault, SinkFault, Limit, NoMemory, NotBuilt}
+use Rattle.cmd_defs.specs.declared.status.Status.TheVariants.{Done, Usage, PlanRefused, JournalOpen, JournalRefused, DeviceFault, SourceFault, SinkFault, Limit, NoMemory, NotBuilt}
 use Rattle.cmd_defs.specs.declared.status.PlanRefusal.TheVariants.{MeetsGuard}
 use Rattle.cmd_defs.specs.Outcome.{IfBothTold}
 use Rattle.cmd_defs.specs.PlanCommand.{MeetsForms, HasReport, FillsGuard, PassesRanges, PlanSays, PlanAnswers}
@@ -68,11 +68,15 @@ one_answer text image NotBuilt Done x y = absurd (x.1 y.1.0 y.1.1 y.1.2)
 one_answer text image NotBuilt (PlanRefused (MeetsGuard byte number)) x y = absurd (x.1 y.1.0 y.1.1 y.1.2)
 one_answer text image NotBuilt NotBuilt x y = refl
 one_answer text image a Usage x y = absurd y.1
+one_answer text image a JournalOpen x y = absurd y.1
+one_answer text image a (JournalRefused refusal) x y = absurd y.1
 one_answer text image a DeviceFault x y = absurd y.0
 one_answer text image a SourceFault x y = absurd y.0
 one_answer text image a SinkFault x y = absurd y.0
 one_answer text image a NoMemory x y = absurd y.0
 one_answer text image Usage b x y = absurd x.1
+one_answer text image JournalOpen b x y = absurd x.1
+one_answer text image (JournalRefused refusal) b x y = absurd x.1
 one_answer text image DeviceFault b x y = absurd x.0
 one_answer text image SourceFault b x y = absurd x.0
 one_answer text image SinkFault b x y = absurd x.0
@@ -91,6 +95,8 @@ is_the_answer (Some text) (Some image) (PlanRefused (MeetsGuard byte number)) st
     λ asked a b c. inl (one_answer text image (PlanRefused (MeetsGuard byte number)) answer (tt, says) asked)
 is_the_answer (Some text) (Some image) (Limit bound number) store rules out W P says device source sink answer =
     λ asked a b c. inl (one_answer text image (Limit bound number) answer (tt, says) asked)
+is_the_answer (Some text) (Some image) JournalOpen store rules out W P says device source sink answer = λ asked a b c. absurd says
+is_the_answer (Some text) (Some image) (JournalRefused refusal) store rules out W P says device source sink answer = λ asked a b c. absurd says
 is_the_answer (Some text) (Some image) DeviceFault store rules out W P says device source sink answer = λ asked a b c. absurd (a (device refl))
 is_the_answer (Some text) (Some image) SourceFault store rules out W P says device source sink answer = λ asked a b c. absurd (b (source refl))
 is_the_answer (Some text) (Some image) SinkFault store rules out W P says device source sink answer = λ asked a b c. absurd (c (sink refl))

@@ -4,3 +4,8 @@ pub mod Outcome
 pub mod Calls
 pub mod PlanCommand
 pub mod PlanAnswerLaw
+pub mod JournalFacts
+pub mod RedactCommand
+pub mod ResumeCommand
+pub mod ReportCommand
+pub mod AnswerLaws

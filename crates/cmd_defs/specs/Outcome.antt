@@ -2,13 +2,15 @@
 use Rattle.std.specs.Prelude.{ℕ, Option, Some, None, List}
 use Rattle.disk_defs.specs.Count.{Rose}
 use Rattle.cmd_defs.specs.declared.status.Status.{Status}
-use Rattle.cmd_defs.specs.declared.status.Status.TheVariants.{Done, Usage, PlanRefused, DeviceFault, SourceFault, SinkFault, Limit, NoMemory, NotBuilt}
+use Rattle.cmd_defs.specs.declared.status.Status.TheVariants.{Done, Usage, PlanRefused, JournalOpen, JournalRefused, DeviceFault, SourceFault, SinkFault, Limit, NoMemory, NotBuilt}
 
 -- the statuses that tell of the words, the texts and the disk alone: no fault, and no want of memory
 abbrev pub IsAnswer : Status → Type 0
 IsAnswer Done = Unit {0}
 IsAnswer Usage = Unit {0}
 IsAnswer (PlanRefused refusal) = Unit {0}
+IsAnswer JournalOpen = Unit {0}
+IsAnswer (JournalRefused refusal) = Unit {0}
 IsAnswer DeviceFault = ⊥
 IsAnswer SourceFault = ⊥
 IsAnswer SinkFault = ⊥
@@ -16,11 +18,28 @@ IsAnswer (Limit bound number) = Unit {0}
 IsAnswer NoMemory = ⊥
 IsAnswer NotBuilt = Unit {0}
 
+-- the statuses after which a store is as it was, but that it may have been synced: all but the two that come when a plan is being
+-- carried out or was
+abbrev pub IsRefusal : Status → Type 0
+IsRefusal Done = ⊥
+IsRefusal Usage = Unit {0}
+IsRefusal (PlanRefused refusal) = Unit {0}
+IsRefusal JournalOpen = Unit {0}
+IsRefusal (JournalRefused refusal) = Unit {0}
+IsRefusal DeviceFault = ⊥
+IsRefusal SourceFault = Unit {0}
+IsRefusal SinkFault = ⊥
+IsRefusal (Limit bound number) = Unit {0}
+IsRefusal NoMemory = Unit {0}
+IsRefusal NotBuilt = Unit {0}
+
 -- after these nothing was written
 abbrev pub IsSilent : Status → Type 0
 IsSilent Done = ⊥
 IsSilent Usage = Unit {0}
 IsSilent (PlanRefused refusal) = Unit {0}
+IsSilent JournalOpen = Unit {0}
+IsSilent (JournalRefused refusal) = Unit {0}
 IsSilent DeviceFault = Unit {0}
 IsSilent SourceFault = Unit {0}
 IsSilent SinkFault = ⊥

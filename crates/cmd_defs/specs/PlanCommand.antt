@@ -11,7 +11,7 @@ use Rattle.plan_defs.specs.Plan.{plan_of, guarded_byte, planning_rule, HasMoreRa
 use Rattle.text_defs.specs.Report.{report}
 use Rattle.text_defs.specs.declared.ReportState.TheVariants.{Planned}
 use Rattle.cmd_defs.specs.declared.status.Status.{Status}
-use Rattle.cmd_defs.specs.declared.status.Status.TheVariants.{Done, Usage, PlanRefused, DeviceFault, SourceFault, SinkFault, Limit, NoMemory, NotBuilt}
+use Rattle.cmd_defs.specs.declared.status.Status.TheVariants.{Done, Usage, PlanRefused, JournalOpen, JournalRefused, DeviceFault, SourceFault, SinkFault, Limit, NoMemory, NotBuilt}
 use Rattle.cmd_defs.specs.declared.status.PlanRefusal.TheVariants.{MeetsGuard}
 use Rattle.cmd_defs.specs.Outcome.{IsAnswer}
 
@@ -53,6 +53,8 @@ PlanSays Usage text image Wrote BeganWith = ⊥
 PlanSays SourceFault text image Wrote BeganWith = Unit {0}
 PlanSays NotBuilt text image Wrote BeganWith = HasNoForm text image
 PlanSays DeviceFault text image Wrote BeganWith = SaysRules text
+PlanSays JournalOpen text image Wrote BeganWith = ⊥
+PlanSays (JournalRefused refusal) text image Wrote BeganWith = ⊥
 PlanSays (PlanRefused (MeetsGuard byte number)) text image Wrote BeganWith = FillsGuard byte number text image
 PlanSays (Limit bound number) text image Wrote BeganWith = PassesRanges bound number text image
 PlanSays SinkFault text image Wrote BeganWith = HasReport text image BeganWith

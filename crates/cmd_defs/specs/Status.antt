@@ -3,7 +3,9 @@ use Rattle.std.specs.Prelude.{ℕ, List, [], ◌++◌, codes, decimal}
 use Rattle.fault_defs.specs.declared.Bound.{Bound}
 use Rattle.fault_defs.specs.declared.Bound.TheVariants as bounds
 use Rattle.cmd_defs.specs.declared.status.Status.{Status}
-use Rattle.cmd_defs.specs.declared.status.Status.TheVariants.{Done, Usage, PlanRefused, DeviceFault, SourceFault, SinkFault, Limit, NoMemory, NotBuilt}
+use Rattle.cmd_defs.specs.declared.status.Status.TheVariants.{Done, Usage, PlanRefused, JournalOpen, JournalRefused, DeviceFault, SourceFault, SinkFault, Limit, NoMemory, NotBuilt}
+use Rattle.cmd_defs.specs.declared.status.JournalRefusal.{JournalRefusal}
+use Rattle.cmd_defs.specs.declared.status.JournalRefusal.TheVariants.{NotOpen, Bad, OtherLength}
 use Rattle.cmd_defs.specs.declared.status.PlanRefusal.{PlanRefusal}
 use Rattle.cmd_defs.specs.declared.status.PlanRefusal.TheVariants.{MeetsGuard}
 
@@ -12,6 +14,8 @@ abbrev pub code_of : Status → ℕ
 code_of Done = 0
 code_of Usage = 2
 code_of (PlanRefused refusal) = 7
+code_of JournalOpen = 8
+code_of (JournalRefused refusal) = 9
 code_of DeviceFault = 10
 code_of SourceFault = 11
 code_of SinkFault = 12
@@ -48,11 +52,19 @@ bound_name bounds.Stream = codes "Stream"
 unfoldable pub limit_line : Bound → ℕ → List ℕ
 limit_line bound number = codes "dfredact: limit " ++ bound_name bound ++ codes " " ++ decimal number ++ codes " passed\n"
 
+-- the line that says why a journal is refused
+unfoldable pub journal_line : JournalRefusal → List ℕ
+journal_line NotOpen = codes "dfredact: journal holds no plan\n"
+journal_line (Bad place) = codes "dfredact: journal is bad at " ++ decimal place ++ codes "\n"
+journal_line (OtherLength kept found) = codes "dfredact: journal is for " ++ decimal kept ++ codes " bytes, image has " ++ decimal found ++ codes "\n"
+
 -- the text that says a status with no operand
 unfoldable pub plain_text : Status → List ℕ
 plain_text Done = []
 plain_text Usage = codes "usage: inventory IMAGE, plan IMAGE RULES, redact IMAGE JOURNAL RULES, resume IMAGE JOURNAL, report JOURNAL, selftest KIND NUMBER FILES"
 plain_text (PlanRefused refusal) = []
+plain_text JournalOpen = codes "journal already holds a plan"
+plain_text (JournalRefused refusal) = []
 plain_text DeviceFault = codes "image or journal failed"
 plain_text SourceFault = codes "rule text failed"
 plain_text SinkFault = codes "output failed"
@@ -65,6 +77,8 @@ unfoldable pub status_line : Status → List ℕ
 status_line Done = []
 status_line Usage = program_line (plain_text Usage)
 status_line (PlanRefused refusal) = refusal_line refusal
+status_line JournalOpen = program_line (plain_text JournalOpen)
+status_line (JournalRefused refusal) = journal_line refusal
 status_line DeviceFault = program_line (plain_text DeviceFault)
 status_line SourceFault = program_line (plain_text SourceFault)
 status_line SinkFault = program_line (plain_text SinkFault)

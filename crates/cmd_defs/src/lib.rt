@@ -4,7 +4,10 @@
 //! is what the status says of the rule text, of the image and of what was written. A text and an image have one answer, which
 //! is the promised law of `laws`.
 //!
-//!     dfredact plan IMAGE RULES      reads the rules and then the image, and writes the report of their plan
+//!     dfredact plan IMAGE RULES            reads the rules and then the image, and writes the report of their plan
+//!     dfredact redact IMAGE JOURNAL RULES  carries that plan out through the journal, and writes its report
+//!     dfredact resume IMAGE JOURNAL        finishes the plan of a journal that stands open, and writes its report
+//!     dfredact report JOURNAL              writes the report of the plan of a journal that stands open
 #![tactic(auto)]
 
 mod command;
@@ -12,4 +15,4 @@ pub mod laws;
 mod status;
 
 pub use command::Command;
-pub use status::{PlanRefusal, Status};
+pub use status::{JournalRefusal, PlanRefusal, Status};

@@ -11,6 +11,17 @@ pub enum PlanRefusal {
     MeetsGuard(u64, u32),
 }
 
+/// Why a journal is refused.
+#[derive(Clone, Copy, Debug, PartialEq, Eq)]
+pub enum JournalRefusal {
+    /// It doesn't stand open.
+    NotOpen,
+    /// It stands open, and this is the place of the first check that it fails.
+    Bad(u64),
+    /// It is that of an image of the first length, and the image has the second.
+    OtherLength(u64, u64),
+}
+
 /// What a command answers.
 #[derive(Clone, Copy, Debug, PartialEq, Eq)]
 pub enum Status {
@@ -20,6 +31,10 @@ pub enum Status {
     Usage,
     /// The rules can't be carried out on the image.
     PlanRefused(PlanRefusal),
+    /// The journal already holds a plan.
+    JournalOpen,
+    /// The journal holds no plan that can be used.
+    JournalRefused(JournalRefusal),
     /// The image or the journal failed.
     DeviceFault,
     /// The rule text failed.
@@ -43,6 +58,8 @@ impl Status {
             Status::Done => 0,
             Status::Usage => 2,
             Status::PlanRefused(_) => 7,
+            Status::JournalOpen => 8,
+            Status::JournalRefused(_) => 9,
             Status::DeviceFault => 10,
             Status::SourceFault => 11,
             Status::SinkFault => 12,

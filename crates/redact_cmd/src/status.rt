@@ -2,13 +2,14 @@
 ghost use Rattle.std.specs.Prelude.{◌≡◌, ◌≤◌, length, OnOk, OnErr};
 ghost use Rattle.disk_defs.specs.Count.{IsCounted};
 ghost use Rattle.disk_defs.specs.Stream.{taken_with, TookPrefixOf};
-ghost use Rattle.redact_cmd.specs.Stages.{status_of_rules, status_of_reading, status_of_planning};
-ghost use Rattle.cmd_defs.specs.Status.{status_line, refusal_line, plain_text};
+ghost use Rattle.redact_cmd.specs.Stages.{status_of_rules, status_of_reading, status_of_journal, status_of_planning};
+ghost use Rattle.cmd_defs.specs.Status.{status_line, refusal_line, journal_line, plain_text};
 
 use arrayvec::ArrayString;
-use cmd_defs::{PlanRefusal, Status};
+use cmd_defs::{JournalRefusal, PlanRefusal, Status};
 use first_reader::FirstReadFault;
 use itoa::Buffer;
+use journal_format::JournalFault;
 use rule_parse::RuleFault;
 use rx_plan::PlanFault;
 use rx_store::{Fault, Sink, write_all};
@@ -32,6 +33,21 @@ pub(crate) fn status_of_reading(fault: FirstReadFault) -> Status
         FirstReadFault::Device => Status::DeviceFault,
         FirstReadFault::NoMemory => Status::NoMemory,
         FirstReadFault::OtherForm => Status::NotBuilt,
+    }
+}
+
+/// The status of a refusal of the journal.
+pub(crate) fn status_of_journal(fault: JournalFault) -> Status
+    ensures { result ≡ status_of_journal fault }
+{
+    match fault {
+        JournalFault::NotOpen => Status::JournalRefused(JournalRefusal::NotOpen),
+        JournalFault::Bad { at } => Status::JournalRefused(JournalRefusal::Bad(at)),
+        JournalFault::OtherLength { kept, found } => {
+            Status::JournalRefused(JournalRefusal::OtherLength(kept, found))
+        }
+        JournalFault::Device => Status::DeviceFault,
+        JournalFault::NoMemory => Status::NoMemory,
     }
 }
 
@@ -76,6 +92,30 @@ fn line_of_refusal(refusal: PlanRefusal) -> Line
     line
 }
 
+/// The line that says why a journal is refused.
+#[tactic(auto, unfolding(cmd_defs::specs::Status::journal_line))]
+fn line_of_journal(refusal: JournalRefusal) -> Line
+    ensures { result.bytes ≡ journal_line refusal }
+{
+    let mut line = Line::new();
+    match refusal {
+        JournalRefusal::NotOpen => line.push_str("dfredact: journal holds no plan\n"),
+        JournalRefusal::Bad(place) => {
+            line.push_str("dfredact: journal is bad at ");
+            line.push_str(Buffer::new().format(place));
+            line.push_str("\n");
+        }
+        JournalRefusal::OtherLength(kept, found) => {
+            line.push_str("dfredact: journal is for ");
+            line.push_str(Buffer::new().format(kept));
+            line.push_str(" bytes, image has ");
+            line.push_str(Buffer::new().format(found));
+            line.push_str("\n");
+        }
+    }
+    line
+}
+
 /// The text that says a status with no operand.
 #[tactic(auto, unfolding(cmd_defs::specs::Status::plain_text))]
 fn text_of(status: &Status) -> &'static str
@@ -86,12 +126,13 @@ fn text_of(status: &Status) -> &'static str
         Status::Usage => {
             "usage: inventory IMAGE, plan IMAGE RULES, redact IMAGE JOURNAL RULES, resume IMAGE JOURNAL, report JOURNAL, selftest KIND NUMBER FILES"
         }
+        Status::JournalOpen => "journal already holds a plan",
         Status::DeviceFault => "image or journal failed",
         Status::SourceFault => "rule text failed",
         Status::SinkFault => "output failed",
         Status::NoMemory => "out of memory",
         Status::NotBuilt => "not built yet",
-        Status::Done | Status::PlanRefused(_) => "",
+        Status::Done | Status::PlanRefused(_) | Status::JournalRefused(_) => "",
     }
 }
 
@@ -104,6 +145,7 @@ fn line_of(status: &Status) -> Line
     match status {
         Status::Done => return line,
         Status::PlanRefused(refusal) => return line_of_refusal(*refusal),
+        Status::JournalRefused(refusal) => return line_of_journal(*refusal),
         _ => {}
     }
     line.push_str("dfredact: ");
@@ -134,6 +176,26 @@ mod tests {
             (Status::SinkFault, 12, "dfredact: output failed\n"),
             (Status::NoMemory, 14, "dfredact: out of memory\n"),
             (Status::NotBuilt, 15, "dfredact: not built yet\n"),
+            (
+                Status::JournalOpen,
+                8,
+                "dfredact: journal already holds a plan\n",
+            ),
+            (
+                Status::JournalRefused(JournalRefusal::NotOpen),
+                9,
+                "dfredact: journal holds no plan\n",
+            ),
+            (
+                Status::JournalRefused(JournalRefusal::Bad(24)),
+                9,
+                "dfredact: journal is bad at 24\n",
+            ),
+            (
+                Status::JournalRefused(JournalRefusal::OtherLength(262144, 262145)),
+                9,
+                "dfredact: journal is for 262144 bytes, image has 262145\n",
+            ),
             (
                 Status::PlanRefused(PlanRefusal::MeetsGuard(81920, 1)),
                 7,
