@@ -1,10 +1,13 @@
 -- What a status of `plan` says where a stage gave it.
-use Rattle.std.proofs.Common.{◌≡◌, refl, sym, subst, ℕ, Option, Some, None, IfSome, Ok, List}
+use Rattle.std.proofs.Common.{◌≡◌, ◌≤◌, length, refl, sym, subst, ℕ, Option, Some, None, IfSome, Ok, List}
+use Rattle.fault_defs.specs.declared.Bound.{Bound}
+use Rattle.fault_defs.specs.declared.Bound.TheVariants.{Ranges}
+use Rattle.rx_ranges.specs.declared.plan.TheConstants.{MAX_RANGES}
 use Rattle.rule_defs.specs.declared.Rule.{Rule}
 use Rattle.rule_defs.specs.Reads.{Reads, SaysNoRules}
 use Rattle.rx_tree.specs.TreeValue.{TreeValue}
 use Rattle.volume_defs.specs.FirstTree.{first_tree}
-use Rattle.plan_defs.specs.Plan.{plan_of, guarded_byte, planning_rule}
+use Rattle.plan_defs.specs.Plan.{plan_of, guarded_byte, planning_rule, HasMoreRanges}
 use Rattle.text_defs.specs.Report.{report}
 use Rattle.text_defs.specs.declared.ReportState.TheVariants.{Planned}
 use Rattle.cmd_defs.specs.declared.status.Status.{Status}
@@ -34,30 +37,43 @@ pub rules_refused : (text image : Option (List ℕ)) (W P : List ℕ → Type 0)
     → (fault ≡ rules.OtherForm → IfSome text SaysNoRules) → IfBothTold text image (λ t i. PlanSays status t i W P)
 rules_refused text image W P fault status is other = told_of text image W P status (status_of_rules fault) is (rules_say text image W P fault other)
 
+-- what a refusal of a plan says of the tree and its rules
+abbrev NamesGuarded : TreeValue → List Rule → PlanFault → Type 0
+NamesGuarded tree rules fault =
+    (at rule : ℕ) → fault ≡ plan.MeetsGuard at rule → (guarded_byte tree rules ≡ Some at) × (planning_rule rules tree at ≡ Some rule)
+
+abbrev NamesLimit : TreeValue → List Rule → PlanFault → Type 0
+NamesLimit tree rules fault =
+    (bound : Bound) (number : ℕ) → fault ≡ plan.Limit bound number → (bound ≡ Ranges) × (number ≡ MAX_RANGES) × HasMoreRanges number tree rules
+
 plan_says : (text image : Option (List ℕ)) (W P : List ℕ → Type 0) (rules : List Rule) (tree : TreeValue) (fault : PlanFault)
     → IfSome text (λ t. Reads t rules) → IfSome image (λ i. first_tree i ≡ Ok tree)
-    → ((at rule : ℕ) → fault ≡ plan.MeetsGuard at rule → (guarded_byte tree rules ≡ Some at) × (planning_rule rules tree at ≡ Some rule))
+    → NamesGuarded tree rules fault → NamesLimit tree rules fault
     → IfBothTold text image (λ t i. PlanSays (status_of_planning fault) t i W P)
-plan_says None image W P rules tree fault reads tree_is guarded = tt
-plan_says (Some t) None W P rules tree fault reads tree_is guarded = tt
-plan_says (Some t) (Some i) W P rules tree (plan.MeetsGuard at rule) reads tree_is guarded =
+plan_says None image W P rules tree fault reads tree_is guarded limit = tt
+plan_says (Some t) None W P rules tree fault reads tree_is guarded limit = tt
+plan_says (Some t) (Some i) W P rules tree (plan.MeetsGuard at rule) reads tree_is guarded limit =
     let meets = guarded at rule refl in
     (rules, tree, record { reads = reads; tree_is = tree_is }, meets.0, meets.1)
-plan_says (Some t) (Some i) W P rules tree plan.NoMemory reads tree_is guarded = tt
+plan_says (Some t) (Some i) W P rules tree (plan.Limit bound number) reads tree_is guarded limit =
+    let passed = limit bound number refl in
+    (rules, tree, record { reads = reads; tree_is = tree_is }, passed.0, passed.1, passed.2)
+plan_says (Some t) (Some i) W P rules tree plan.NoMemory reads tree_is guarded limit = tt
 
 -- where the plan was not made
 pub plan_refused : (text image : Option (List ℕ)) (W P : List ℕ → Type 0) (rules : List Rule) (tree : TreeValue) (fault : PlanFault) (status : Status)
     → status ≡ status_of_planning fault → IfSome text (λ t. Reads t rules) → IfSome image (λ i. first_tree i ≡ Ok tree)
-    → ((at rule : ℕ) → fault ≡ plan.MeetsGuard at rule → (guarded_byte tree rules ≡ Some at) × (planning_rule rules tree at ≡ Some rule))
+    → NamesGuarded tree rules fault → NamesLimit tree rules fault
     → IfBothTold text image (λ t i. PlanSays status t i W P)
-plan_refused text image W P rules tree fault status is reads tree_is guarded =
-    told_of text image W P status (status_of_planning fault) is (plan_says text image W P rules tree fault reads tree_is guarded)
+plan_refused text image W P rules tree fault status is reads tree_is guarded limit =
+    told_of text image W P status (status_of_planning fault) is (plan_says text image W P rules tree fault reads tree_is guarded limit)
 
 -- where the report was written, or some first bytes of it
 pub reported : (text image : Option (List ℕ)) (W : List ℕ → Type 0) (rules : List Rule) (tree : TreeValue) → IfSome text (λ t. Reads t rules)
-    → IfSome image (λ i. first_tree i ≡ Ok tree) → guarded_byte tree rules ≡ None → W (report (plan_of tree rules) Planned)
+    → IfSome image (λ i. first_tree i ≡ Ok tree) → guarded_byte tree rules ≡ None
+    → length (plan_of tree rules).ranges ≤ MAX_RANGES → W (report (plan_of tree rules) Planned)
     → IfBothTold text image (λ t i. HasReport t i W)
-reported None image W rules tree reads tree_is unguarded wrote = tt
-reported (Some t) None W rules tree reads tree_is unguarded wrote = tt
-reported (Some t) (Some i) W rules tree reads tree_is unguarded wrote =
-    (rules, tree, record { reads = reads; tree_is = tree_is }, unguarded, wrote)
+reported None image W rules tree reads tree_is unguarded few wrote = tt
+reported (Some t) None W rules tree reads tree_is unguarded few wrote = tt
+reported (Some t) (Some i) W rules tree reads tree_is unguarded few wrote =
+    (rules, tree, record { reads = reads; tree_is = tree_is }, unguarded, few, wrote)

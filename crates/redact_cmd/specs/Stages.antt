@@ -1,6 +1,6 @@
 -- The status with which a command ends where a stage of it is refused.
 use Rattle.cmd_defs.specs.declared.status.Status.{Status}
-use Rattle.cmd_defs.specs.declared.status.Status.TheVariants.{PlanRefused, JournalRefused, DeviceFault, SourceFault, NoMemory, NotBuilt}
+use Rattle.cmd_defs.specs.declared.status.Status.TheVariants.{PlanRefused, JournalRefused, DeviceFault, SourceFault, Limit, NoMemory, NotBuilt}
 use Rattle.cmd_defs.specs.declared.status.PlanRefusal.TheVariants.{MeetsGuard}
 use Rattle.cmd_defs.specs.declared.status.JournalRefusal.TheVariants.{NotOpen, Bad, OtherLength}
 use Rattle.journal_format.specs.declared.fault.JournalFault.{JournalFault}
@@ -35,4 +35,5 @@ status_of_journal journal.NoMemory = NoMemory
 -- of a refusal of the plan
 abbrev pub status_of_planning : PlanFault → Status
 status_of_planning (plan.MeetsGuard at number) = PlanRefused (MeetsGuard at number)
+status_of_planning (plan.Limit bound number) = Limit bound number
 status_of_planning plan.NoMemory = NoMemory

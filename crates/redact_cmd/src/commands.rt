@@ -20,7 +20,8 @@ use std::alloc::Global;
 ///
 /// `plan IMAGE RULES` reads the rule text to its end and then the image, and writes the report of their plan. It is
 /// built for rule texts and images of the first form alone; every other command and form is `NotBuilt`. A plan that would
-/// fill a byte of the guard is `PlanRefused`, with the least such byte and its rule. Words that fit no command are `Usage`.
+/// fill a byte of the guard is `PlanRefused`, with the least such byte and its rule, and then one with more than 1,000,000 ranges is
+/// `Limit`. Words that fit no command are `Usage`.
 ///
 /// `DeviceFault`, `SourceFault` and `SinkFault` come only where the store, the source or the sink failed in this call;
 /// `NoMemory` where memory ran out. After `SinkFault` the sink took some first bytes of the report, and after every

@@ -3,7 +3,7 @@ ghost use Rattle.std.specs.Prelude.{◌≡◌, ◌≤◌, length, OnOk, OnErr};
 ghost use Rattle.disk_defs.specs.Count.{IsCounted};
 ghost use Rattle.disk_defs.specs.Stream.{taken_with, TookPrefixOf};
 ghost use Rattle.redact_cmd.specs.Stages.{status_of_rules, status_of_reading, status_of_journal, status_of_planning};
-ghost use Rattle.cmd_defs.specs.Status.{status_line, refusal_line, journal_line, plain_text};
+ghost use Rattle.cmd_defs.specs.Status.{status_line, refusal_line, journal_line, limit_line, bound_name, plain_text};
 
 use arrayvec::ArrayString;
 use cmd_defs::{JournalRefusal, PlanRefusal, Status};
@@ -12,7 +12,7 @@ use itoa::Buffer;
 use journal_format::JournalFault;
 use rule_parse::RuleFault;
 use rx_plan::PlanFault;
-use rx_store::{Fault, Sink, write_all};
+use rx_store::{Bound, Fault, Sink, write_all};
 
 /// The status of a fault of reading the rules.
 pub(crate) fn status_of_rules(fault: RuleFault) -> Status
@@ -59,6 +59,7 @@ pub(crate) fn status_of_planning(fault: PlanFault) -> Status
         PlanFault::MeetsGuard { at, rule } => Status::PlanRefused(PlanRefusal::MeetsGuard(
             at, rule,
         )),
+        PlanFault::Limit(bound, number) => Status::Limit(bound, number),
         PlanFault::NoMemory => Status::NoMemory,
     }
 }
@@ -116,6 +117,43 @@ fn line_of_journal(refusal: JournalRefusal) -> Line
     line
 }
 
+/// The name of what is counted.
+#[tactic(auto, unfolding(cmd_defs::specs::Status::bound_name))]
+fn name_of_bound(bound: Bound) -> &'static str
+    ensures name { result.now ≡ bound_name bound }
+    ensures short { length result.now ≤ 13 }
+{
+    match bound {
+        Bound::Image => "Image",
+        Bound::Slots => "Slots",
+        Bound::Names => "Names",
+        Bound::PathBytes => "PathBytes",
+        Bound::Path => "Path",
+        Bound::Depth => "Depth",
+        Bound::Runs => "Runs",
+        Bound::AttributeList => "AttributeList",
+        Bound::RuleText => "RuleText",
+        Bound::RuleLine => "RuleLine",
+        Bound::Rules => "Rules",
+        Bound::Ranges => "Ranges",
+        Bound::Stream => "Stream",
+    }
+}
+
+/// The line that says which limit was passed.
+#[tactic(auto, unfolding(cmd_defs::specs::Status::limit_line))]
+fn line_of_limit(bound: Bound, number: u64) -> Line
+    ensures { result.bytes ≡ limit_line bound number }
+{
+    let mut line = Line::new();
+    line.push_str("dfredact: limit ");
+    line.push_str(name_of_bound(bound));
+    line.push_str(" ");
+    line.push_str(Buffer::new().format(number));
+    line.push_str(" passed\n");
+    line
+}
+
 /// The text that says a status with no operand.
 #[tactic(auto, unfolding(cmd_defs::specs::Status::plain_text))]
 fn text_of(status: &Status) -> &'static str
@@ -133,6 +171,7 @@ fn text_of(status: &Status) -> &'static str
         Status::NoMemory => "out of memory",
         Status::NotBuilt => "not built yet",
         Status::Done | Status::PlanRefused(_) | Status::JournalRefused(_) => "",
+        Status::Done | Status::PlanRefused(_) | Status::Limit(_, _) => "",
     }
 }
 
@@ -146,6 +185,7 @@ fn line_of(status: &Status) -> Line
         Status::Done => return line,
         Status::PlanRefused(refusal) => return line_of_refusal(*refusal),
         Status::JournalRefused(refusal) => return line_of_journal(*refusal),
+        Status::Limit(bound, number) => return line_of_limit(*bound, *number),
         _ => {}
     }
     line.push_str("dfredact: ");
@@ -174,6 +214,11 @@ mod tests {
             ),
             (Status::SourceFault, 11, "dfredact: rule text failed\n"),
             (Status::SinkFault, 12, "dfredact: output failed\n"),
+            (
+                Status::Limit(Bound::Ranges, 1_000_000),
+                13,
+                "dfredact: limit Ranges 1000000 passed\n",
+            ),
             (Status::NoMemory, 14, "dfredact: out of memory\n"),
             (Status::NotBuilt, 15, "dfredact: not built yet\n"),
             (

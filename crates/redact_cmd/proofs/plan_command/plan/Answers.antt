@@ -1,4 +1,6 @@
-use Rattle.std.proofs.Common.{◌≡◌, List, ℕ, Err, ap, subst}
+use Rattle.std.proofs.Common.{◌≡◌, ◌≤◌, List, ℕ, Err, ap, length, subst}
+use Rattle.rx_ranges.specs.declared.plan.Plan.{Plan}
+use Rattle.rx_ranges.specs.declared.plan.TheConstants.{MAX_RANGES}
 use Rattle.disk_defs.specs.Stream.{taken_with, TookPrefixOf}
 use Rattle.text_defs.specs.Report.{report}
 use Rattle.text_defs.specs.declared.ReportState.TheVariants.{Planned}
@@ -12,15 +14,18 @@ pub returns-in-Err-make_plan-clause-says : goal.returns-in-Err-make_plan-clause-
 returns-in-Err-make_plan-clause-says g c =
     plan_refused _ _ _ _ c.in-Ok.rules c.in-Ok-read_tree.tree c.in-Err-make_plan.fault c.status_of_planning.result c.status_of_planning.ensures
     c.in-Ok.ensures.read c.in-Ok-read_tree.ensures.told (λ at rule is. c.in-Err-make_plan.ensures.guarded at rule (ap Err is))
+    (λ bound number is. c.in-Err-make_plan.ensures.limit bound number (ap Err is))
 
 pub returns-in-Ok-write_report-clause-says : goal.returns-in-Ok-write_report-clause-says
 returns-in-Ok-write_report-clause-says g c =
     let W : List ℕ → Type 0 = λ text. g.K.Sink.taken c.write_report.new.sink ≡ taken_with (g.K.Sink.taken c.args.out.now) text in
-    reported _ _ W c.in-Ok.rules c.in-Ok-read_tree.tree c.in-Ok.ensures.read c.in-Ok-read_tree.ensures.told c.in-Ok-make_plan.ensures.unguarded
+    let few = subst (λ (p : Plan). length p.ranges ≤ MAX_RANGES) c.in-Ok-make_plan.ensures.plan c.in-Ok-make_plan.ensures.is_plan.few_ranges in
+    reported _ _ W c.in-Ok.rules c.in-Ok-read_tree.tree c.in-Ok.ensures.read c.in-Ok-read_tree.ensures.told c.in-Ok-make_plan.ensures.unguarded few
     (subst (λ p. W (report p Planned)) c.in-Ok-make_plan.ensures.plan c.in-Ok-write_report.ensures.taken)
 
 pub returns-clause-says : goal.returns-clause-says
 returns-clause-says g c =
     let P : List ℕ → Type 0 = TookPrefixOf (g.K.Sink.taken c.args.out.now) (g.K.Sink.taken c.write_report.new.sink) in
-    reported _ _ P c.in-Ok.rules c.in-Ok-read_tree.tree c.in-Ok.ensures.read c.in-Ok-read_tree.ensures.told c.in-Ok-make_plan.ensures.unguarded
+    let few = subst (λ (p : Plan). length p.ranges ≤ MAX_RANGES) c.in-Ok-make_plan.ensures.plan c.in-Ok-make_plan.ensures.is_plan.few_ranges in
+    reported _ _ P c.in-Ok.rules c.in-Ok-read_tree.tree c.in-Ok.ensures.read c.in-Ok-read_tree.ensures.told c.in-Ok-make_plan.ensures.unguarded few
     (subst (λ p. P (report p Planned)) c.in-Ok-make_plan.ensures.plan c.in-Err-write_report.ensures.prefix)
