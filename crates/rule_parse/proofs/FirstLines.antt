@@ -1,5 +1,5 @@
 -- The first form of a rule text: each line has one name and two digits, or none.
-use Rattle.std.proofs.Common.{◌≡◌, ℕ, ◌+◌, ◌-◌, ◌*◌, ◌<◌, ◌≤◌, nat_eq, true, false, List, [], ◌∷◌, ◌++◌, length, take, drop, refl, sym, ap, ◌∙◌, arith, length-append, slice_index_or, length-drop, Option, Some, None, IfNone, IfSome, ◌⊎◌, inl, inr, ⊎_elim, append-nil, ◌&&◌, cond, Bool, slice_index, zero, suc, nat_le}
+use Rattle.std.proofs.Common.{◌≡◌, ℕ, ◌+◌, ◌-◌, ◌*◌, ◌<◌, ◌≤◌, nat_eq, true, false, List, [], ◌∷◌, ◌++◌, length, take, drop, refl, sym, ap, ◌∙◌, arith, length-append, slice_index_or, length-drop, Option, Some, None, IfNone, IfSome, inl, inr, ⊎_elim, append-nil, ◌&&◌, cond, Bool, slice_index, zero, suc, nat_le}
 use Rattle.std.proofs.Math.Seq.{take-append_seam, drop-append_seam}
 use Rattle.std.proofs.lemmas.List.{take-append-drop}
 use Rattle.std.proofs.lemmas.Bool.{false≢true}
