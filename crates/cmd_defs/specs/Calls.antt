@@ -18,6 +18,24 @@ MayCall Report area.Image = ⊥
 MayCall Report area.Journal = Unit {0}
 MayCall (Selftest kind number files) area = ⊥
 
+-- a command reads the rule text
+abbrev pub ReadsRules : Command → Type 0
+ReadsRules Inventory = ⊥
+ReadsRules Plan = Unit {0}
+ReadsRules Redact = Unit {0}
+ReadsRules Resume = ⊥
+ReadsRules Report = ⊥
+ReadsRules (Selftest kind number files) = ⊥
+
+-- a command isn't built yet
+abbrev pub IsUnbuilt : Command → Type 0
+IsUnbuilt Inventory = Unit {0}
+IsUnbuilt Plan = ⊥
+IsUnbuilt Redact = ⊥
+IsUnbuilt Resume = ⊥
+IsUnbuilt Report = ⊥
+IsUnbuilt (Selftest kind number files) = Unit {0}
+
 -- the faults on an area
 abbrev pub faults_on : Area → Faults → ℕ
 faults_on area.Image faults = faults.image

@@ -1,6 +1,7 @@
 -- How a command ended: what its statuses are about, and the premises of what is said of them.
 use Rattle.std.specs.Prelude.{ℕ, Option, Some, None, List}
 use Rattle.disk_defs.specs.Count.{Rose}
+use Rattle.disk_defs.specs.Story.{Held}
 use Rattle.cmd_defs.specs.declared.status.Status.{Status}
 use Rattle.cmd_defs.specs.declared.status.Status.TheVariants.{Done, Usage, PlanRefused, JournalOpen, JournalRefused, DeviceFault, SourceFault, SinkFault, Limit, NoMemory, NotBuilt}
 
@@ -52,6 +53,12 @@ abbrev pub IfBothTold : Option (List ℕ) → Option (List ℕ) → (List ℕ �
 IfBothTold None image P = Unit {0}
 IfBothTold (Some text) None P = Unit {0}
 IfBothTold (Some text) (Some image) P = P text image
+
+-- a fact of the rule text and of what a store holds, where both are told
+abbrev pub IfTextAndHeld : Option (List ℕ) → Option Held → (List ℕ → Held → Type 0) → Type 0
+IfTextAndHeld None held P = Unit {0}
+IfTextAndHeld (Some text) None P = Unit {0}
+IfTextAndHeld (Some text) (Some held) P = P text held
 
 -- no fault was counted between two moments
 abbrev pub IsCalm : ℕ → ℕ → Type 0

@@ -6,7 +6,7 @@
 //!     let tree = read_tree(alloc, &mut store)?;
 #![tactic(auto)]
 
-ghost use Rattle.std.specs.Prelude.{◌≡◌, ◌≤◌, true, length, IfErr, IfSome, IsErrOf, ◌≢◌, Err};
+ghost use Rattle.std.specs.Prelude.{◌≡◌, ◌≤◌, true, length, IfErr, IfOk, IfSome, IsErrOf, ◌≢◌, Err};
 ghost use Rattle.disk_defs.specs.Disk.{size_of, told_image};
 ghost use Rattle.disk_defs.specs.declared.Area.TheVariants.{Image};
 ghost use Rattle.volume_defs.specs.FirstForm.{is_first_length, is_first_superblock};

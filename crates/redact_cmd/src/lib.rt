@@ -9,6 +9,9 @@
 
 mod commands;
 mod plan_command;
+mod redact_command;
+mod report_command;
+mod resume_command;
 mod status;
 mod words;
 

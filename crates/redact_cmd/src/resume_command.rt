@@ -30,27 +30,29 @@ pub(crate) fn resume<S: Store, K: Sink>(alloc: Global, store: &mut S, out: &mut 
     ensures device { result ≡ Status.DeviceFault → RoseSomewhere (S.faults store.old) (S.faults store.new) }
     ensures sink { result ≡ Status.SinkFault → Rose (K.faults out.old) (K.faults out.new) }
 {
-    if store.sync().is_err() {
-        return Status::DeviceFault;
+    match store.sync() {
+        Ok(()) => {}
+        Err(_) => return Status::DeviceFault,
     }
     let state = match read_journal(alloc, store) {
         Ok(state) => state,
         Err(fault) => return status_of_journal(fault),
     };
-    match store.len(Area::Image) {
-        Ok(len) => {
-            if let Err(fault) = state.fits(len) {
-                return status_of_journal(fault);
-            }
-        }
+    let len = match store.len(Area::Image) {
+        Ok(len) => len,
         Err(_) => return Status::DeviceFault,
+    };
+    match state.fits(len) {
+        Ok(()) => {}
+        Err(fault) => return status_of_journal(fault),
     }
     let mut session = match Session::resume(alloc, &state) {
         Ok(session) => session,
         Err(_) => return Status::NoMemory,
     };
-    if finish(&mut session, store).is_err() {
-        return Status::DeviceFault;
+    match finish(&mut session, store) {
+        Ok(()) => {}
+        Err(_) => return Status::DeviceFault,
     }
     match write_report(out, &state.plan, ReportState::Done) {
         Ok(()) => Status::Done,
