@@ -10,6 +10,7 @@ use Rattle.cmd_defs.specs.declared.status.JournalRefusal.TheVariants.{NotOpen, B
 use Rattle.cmd_defs.specs.declared.status.PlanRefusal.TheVariants.{MeetsGuard}
 use Rattle.cmd_defs.specs.declared.status.Status.{Status}
 use Rattle.cmd_defs.specs.declared.status.Status.TheVariants.{Done, Usage, PlanRefused, JournalOpen, JournalRefused, DeviceFault, SourceFault, SinkFault, Limit, NoMemory, NotBuilt}
+use Rattle.cmd_defs.specs.Outcome.{IfTextAndHeld}
 use Rattle.cmd_defs.specs.JournalFacts.{HoldsPlan}
 use Rattle.cmd_defs.specs.PlanCommand.{PlanAnswers}
 use Rattle.cmd_defs.specs.RedactCommand.{RedactSays, RedactAnswers}
@@ -245,3 +246,24 @@ is_redact_answer text held before now SinkFault store rules out W P says device 
 is_redact_answer text held before now NoMemory store rules out W P says device source sink answer asked a b c = inr refl
 is_redact_answer text held before now Usage store rules out W P says device source sink answer asked a b c = absurd says
 is_redact_answer text held before now (JournalRefused refusal) store rules out W P says device source sink answer asked a b c = absurd says
+
+-- ---- the same of what may be told
+
+pub redact_completes : (text : Option (List ℕ)) (told : Option Held) (before now : State) (status : Status) (store rules out : Type 0) (W P : List ℕ → Type 0)
+    → IfTextAndHeld text told (λ t h. RedactSays status t h before now W P) → (status ≡ DeviceFault → store) → (status ≡ SourceFault → rules) → (status ≡ SinkFault → out)
+    → (answer : Status) → IfTextAndHeld text told (λ t h. RedactAnswers answer t h → ¬ store → ¬ rules → ¬ out → (status ≡ answer) ⊎ (status ≡ NoMemory))
+redact_completes None told before now status store rules out W P says device source sink answer = tt
+redact_completes (Some t) None before now status store rules out W P says device source sink answer = tt
+redact_completes (Some t) (Some h) before now status store rules out W P says device source sink answer = is_redact_answer t h before now status store rules out W P says device source sink answer
+
+pub resume_completes : (told : Option Held) (before now : State) (status : Status) (store out : Type 0) (W P : List ℕ → Type 0)
+    → IfSome told (λ h. ResumeSays status h before now W P) → (status ≡ DeviceFault → store) → (status ≡ SinkFault → out)
+    → (answer : Status) → IfSome told (λ h. ResumeAnswers answer h → ¬ store → ¬ out → (status ≡ answer) ⊎ (status ≡ NoMemory))
+resume_completes None before now status store out W P says device sink answer = tt
+resume_completes (Some h) before now status store out W P says device sink answer = is_resume_answer h before now status store out W P says device sink answer
+
+pub report_completes : (told : Option (List ℕ)) (status : Status) (store out : Type 0) (W P : List ℕ → Type 0)
+    → IfSome told (λ journal. ReportSays status journal W P) → (status ≡ DeviceFault → store) → (status ≡ SinkFault → out)
+    → (answer : Status) → IfSome told (λ journal. ReportAnswers answer journal → ¬ store → ¬ out → (status ≡ answer) ⊎ (status ≡ NoMemory))
+report_completes None status store out W P says device sink answer = tt
+report_completes (Some journal) status store out W P says device sink answer = is_report_answer journal status store out W P says device sink answer

@@ -1,2 +1,3 @@
 pub mod PlanAnswerLaw
 pub mod JournalAnswers
+pub mod StoreLaws

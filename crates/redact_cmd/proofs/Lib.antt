@@ -1,2 +1,4 @@
 pub mod Lines
 pub mod Says
+pub mod Resuming
+pub mod Redacting

@@ -38,11 +38,11 @@ pub rules_refused : (text image : Option (List ℕ)) (W P : List ℕ → Type 0)
 rules_refused text image W P fault status is other = told_of text image W P status (status_of_rules fault) is (rules_say text image W P fault other)
 
 -- what a refusal of a plan says of the tree and its rules
-abbrev NamesGuarded : TreeValue → List Rule → PlanFault → Type 0
+abbrev pub NamesGuarded : TreeValue → List Rule → PlanFault → Type 0
 NamesGuarded tree rules fault =
     (at rule : ℕ) → fault ≡ plan.MeetsGuard at rule → (guarded_byte tree rules ≡ Some at) × (planning_rule rules tree at ≡ Some rule)
 
-abbrev NamesLimit : TreeValue → List Rule → PlanFault → Type 0
+abbrev pub NamesLimit : TreeValue → List Rule → PlanFault → Type 0
 NamesLimit tree rules fault =
     (bound : Bound) (number : ℕ) → fault ≡ plan.Limit bound number → (bound ≡ Ranges) × (number ≡ MAX_RANGES) × HasMoreRanges number tree rules
 

@@ -1,16 +1,23 @@
 //! The commands.
 ghost use Rattle.std.specs.Prelude.{◌≡◌, ◌≢◌, ◌↔◌, ◌⊎◌, [], Some, None, IfSome, map, string_bytes};
-ghost use Rattle.disk_defs.specs.Disk.{told_image};
+ghost use Rattle.disk_defs.specs.Disk.{held, told_image, told_journal};
 ghost use Rattle.disk_defs.specs.Stream.{taken_with, TookPrefixOf};
 ghost use Rattle.disk_defs.specs.Count.{Rose};
 ghost use Rattle.disk_defs.specs.declared.Area.{Area as AreaValue};
-ghost use Rattle.cmd_defs.specs.Outcome.{IfBothTold, IsCalm, IsSilent};
-ghost use Rattle.cmd_defs.specs.Calls.{MayCall, faults_on, RoseSomewhere};
+ghost use Rattle.cmd_defs.specs.Outcome.{IfBothTold, IfTextAndHeld, IsCalm, IsRefusal, IsSilent};
+ghost use Rattle.cmd_defs.specs.Calls.{IsUnbuilt, MayCall, ReadsRules, faults_on, RoseSomewhere};
+ghost use Rattle.cmd_defs.specs.JournalFacts.{IsUntouched};
+ghost use Rattle.cmd_defs.specs.RedactCommand.{RedactAnswers, RedactSays};
+ghost use Rattle.cmd_defs.specs.ReportCommand.{ReportAnswers, ReportSays};
+ghost use Rattle.cmd_defs.specs.ResumeCommand.{ResumeAnswers, ResumeSays};
 ghost use Rattle.cmd_defs.specs.PlanCommand.{PlanSays, PlanAnswers, SaysRules};
 ghost use Rattle.cmd_defs.specs.Words.{command_of};
 ghost use Rattle.cmd_defs.specs.declared.status.Status.{Status as StatusValue};
 
 use crate::plan_command::plan;
+use crate::redact_command::redact;
+use crate::report_command::report;
+use crate::resume_command::resume;
 use crate::words::parse_words;
 use cmd_defs::{Command, Status};
 use rx_store::{Sink, Source, Store};
@@ -18,14 +25,14 @@ use std::alloc::Global;
 
 /// Carries out the command of the words, and answers how it ended.
 ///
-/// `plan IMAGE RULES` reads the rule text to its end and then the image, and writes the report of their plan. It is
-/// built for rule texts and images of the first form alone; every other command and form is `NotBuilt`. A plan that would
-/// fill a byte of the guard is `PlanRefused`, with the least such byte and its rule, and then one with more than 1,000,000 ranges is
-/// `Limit`. Words that fit no command are `Usage`.
+/// `plan IMAGE RULES` reads the rule text to its end and then the image, and writes the report of their plan.
+/// `redact IMAGE JOURNAL RULES` carries that plan out through the journal, and writes its report; `resume IMAGE JOURNAL` finishes the
+/// plan of a journal that stands open; `report JOURNAL` writes the report of such a plan. Rule texts and images are read in the
+/// first form alone; every other form, and every other command, is `NotBuilt`. Words that fit no command are `Usage`.
 ///
 /// `DeviceFault`, `SourceFault` and `SinkFault` come only where the store, the source or the sink failed in this call;
 /// `NoMemory` where memory ran out. After `SinkFault` the sink took some first bytes of the report, and after every
-/// other refusal nothing. The store holds what it held.
+/// other refusal nothing. Only a session of `redact` or `resume` changes what the store holds.
 pub fn run<S: Store, R: Source, K: Sink>(
     alloc: Global,
     words: &[String],
@@ -34,22 +41,44 @@ pub fn run<S: Store, R: Source, K: Sink>(
     out: &mut K,
 ) -> Status
     ensures usage { (result ≡ Status.Usage) ↔ (command_of (map (λ word. string_bytes word) words.now) ≡ None) }
-    ensures unbuilt_commands { IfSome (command_of (map (λ word. string_bytes word) words.now)) (λ command. command ≢ Command.Plan → result ≡ Status.NotBuilt) }
+    ensures unbuilt_commands { IfSome (command_of (map (λ word. string_bytes word) words.now)) (λ command. IsUnbuilt command → result ≡ Status.NotBuilt) }
 
-    // What the status of `plan` says of the rule text and the image, and of what was written.
+    // What a status of each command says of the rule text, of what the store held and left, and of what was written.
     ensures plan { command_of (map (λ word. string_bytes word) words.now) ≡ Some Command.Plan
         → IfBothTold (R.rest rules.old) (told_image (S.state store.old)) (λ text image. PlanSays result text image
         (λ report. K.taken out.new ≡ taken_with (K.taken out.old) report) (TookPrefixOf (K.taken out.old) (K.taken out.new))) }
-    ensures ended { result ≡ Status.Done → IfSome (R.rest rules.new) (λ rest. rest ≡ []) }
+    ensures redact { command_of (map (λ word. string_bytes word) words.now) ≡ Some Command.Redact
+        → IfTextAndHeld (R.rest rules.old) (held (S.state store.old)) (λ text held. RedactSays result text held (S.state store.old) (S.state store.new)
+        (λ report. K.taken out.new ≡ taken_with (K.taken out.old) report) (TookPrefixOf (K.taken out.old) (K.taken out.new))) }
+    ensures resume { command_of (map (λ word. string_bytes word) words.now) ≡ Some Command.Resume
+        → IfSome (held (S.state store.old)) (λ held. ResumeSays result held (S.state store.old) (S.state store.new)
+        (λ report. K.taken out.new ≡ taken_with (K.taken out.old) report) (TookPrefixOf (K.taken out.old) (K.taken out.new))) }
+    ensures report { command_of (map (λ word. string_bytes word) words.now) ≡ Some Command.Report
+        → IfSome (told_journal (S.state store.old)) (λ journal. ReportSays result journal
+        (λ report. K.taken out.new ≡ taken_with (K.taken out.old) report) (TookPrefixOf (K.taken out.old) (K.taken out.new))) }
+    ensures ended { IfSome (command_of (map (λ word. string_bytes word) words.now)) (λ command.
+        ReadsRules command → result ≡ Status.Done → IfSome (R.rest rules.new) (λ rest. rest ≡ [])) }
 
-    // With nothing counted it is the one answer that the text and the image have, or memory ran out.
+    // With nothing counted it is the one answer that there is, or memory ran out.
     ensures complete { command_of (map (λ word. string_bytes word) words.now) ≡ Some Command.Plan → (answer : StatusValue)
         → IfBothTold (R.rest rules.old) (told_image (S.state store.old)) (λ text image. PlanAnswers answer text image
         → IsCalm (S.faults store.old).image (S.faults store.new).image → IsCalm (R.faults rules.old) (R.faults rules.new)
         → IsCalm (K.faults out.old) (K.faults out.new) → (result ≡ answer) ⊎ (result ≡ Status.NoMemory)) }
+    ensures complete_redact { command_of (map (λ word. string_bytes word) words.now) ≡ Some Command.Redact → (answer : StatusValue)
+        → IfTextAndHeld (R.rest rules.old) (held (S.state store.old)) (λ text held. RedactAnswers answer text held
+        → ¬ (RoseSomewhere (S.faults store.old) (S.faults store.new)) → IsCalm (R.faults rules.old) (R.faults rules.new)
+        → IsCalm (K.faults out.old) (K.faults out.new) → (result ≡ answer) ⊎ (result ≡ Status.NoMemory)) }
+    ensures complete_resume { command_of (map (λ word. string_bytes word) words.now) ≡ Some Command.Resume → (answer : StatusValue)
+        → IfSome (held (S.state store.old)) (λ held. ResumeAnswers answer held → ¬ (RoseSomewhere (S.faults store.old) (S.faults store.new))
+        → IsCalm (K.faults out.old) (K.faults out.new) → (result ≡ answer) ⊎ (result ≡ Status.NoMemory)) }
+    ensures complete_report { command_of (map (λ word. string_bytes word) words.now) ≡ Some Command.Report → (answer : StatusValue)
+        → IfSome (told_journal (S.state store.old)) (λ journal. ReportAnswers answer journal
+        → IsCalm (S.faults store.old).journal (S.faults store.new).journal → IsCalm (K.faults out.old) (K.faults out.new)
+        → (result ≡ answer) ⊎ (result ≡ Status.NoMemory)) }
 
-    // What a refusal leaves.
+    // What a refusal leaves: nothing is written, and the store is as it was, but that `redact` and `resume` may have synced it.
     ensures silent { IsSilent result → K.taken out.new ≡ K.taken out.old }
+    ensures untouched { IsRefusal result → IsUntouched (S.state store.old) (S.state store.new) }
     ensures same { IfSome (command_of (map (λ word. string_bytes word) words.now)) (λ command.
         command ≢ Command.Redact → command ≢ Command.Resume → S.state store.new ≡ S.state store.old) }
 
@@ -60,19 +89,24 @@ pub fn run<S: Store, R: Source, K: Sink>(
     ensures store_calm { result ≢ Status.DeviceFault → S.faults store.new ≡ S.faults store.old }
     ensures rules_calm { result ≢ Status.SourceFault → R.faults rules.new ≡ R.faults rules.old }
     ensures out_calm { result ≢ Status.SinkFault → K.faults out.new ≡ K.faults out.old }
-    ensures rules_first { result ≡ Status.DeviceFault → IfSome (R.rest rules.old) SaysRules }
+    ensures rules_first { IfSome (command_of (map (λ word. string_bytes word) words.now)) (λ command.
+        ReadsRules command → result ≡ Status.DeviceFault → IfSome (R.rest rules.old) SaysRules) }
 
     // A command makes no call on an area that it doesn't name: one that failed would have been counted.
-    ensures untouched { (area : AreaValue) → IfSome (command_of (map (λ word. string_bytes word) words.now)) (λ command.
+    ensures uncalled { (area : AreaValue) → IfSome (command_of (map (λ word. string_bytes word) words.now)) (λ command.
         ¬ (MayCall command area) → faults_on area (S.faults store.new) ≡ faults_on area (S.faults store.old)) }
 
-    // No other command calls the store, the source or the sink.
-    ensures idle { command_of (map (λ word. string_bytes word) words.now) ≢ Some Command.Plan
-        → (store.new ≡ store.old) × (rules.new ≡ rules.old) × (out.new ≡ out.old) }
+    // A command that reads no rules makes no call on their source, and one that isn't built none at all.
+    ensures no_rules { IfSome (command_of (map (λ word. string_bytes word) words.now)) (λ command. ¬ (ReadsRules command) → rules.new ≡ rules.old) }
+    ensures idle { IfSome (command_of (map (λ word. string_bytes word) words.now)) (λ command. IsUnbuilt command → (store.new ≡ store.old) × (out.new ≡ out.old)) }
+    ensures no_command { command_of (map (λ word. string_bytes word) words.now) ≡ None → (store.new ≡ store.old) × (rules.new ≡ rules.old) × (out.new ≡ out.old) }
 {
     match parse_words(words) {
         None => Status::Usage,
         Some(Command::Plan) => plan(alloc, store, rules, out),
+        Some(Command::Redact) => redact(alloc, store, rules, out),
+        Some(Command::Resume) => resume(alloc, store, out),
+        Some(Command::Report) => report(alloc, store, out),
         Some(_) => Status::NotBuilt,
     }
 }

@@ -15,7 +15,7 @@ mod resume_command;
 mod status;
 mod words;
 
-pub use cmd_defs::{Command, PlanRefusal, Status};
+pub use cmd_defs::{Command, JournalRefusal, PlanRefusal, Status};
 pub use commands::run;
 pub use status::write_status;
 pub use words::parse_words;

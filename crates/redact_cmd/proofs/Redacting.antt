@@ -1,0 +1,158 @@
+-- What a status of `redact` says where a stage gave it.
+use Rattle.std.proofs.Common.{◌≡◌, ◌≤◌, ℕ, Option, Some, None, IfSome, Ok, Err, List, length, refl, sym, ◌∙◌, ap, subst, inl, inr, ◌⊎◌}
+use Rattle.disk_defs.specs.Story.{Held, Sync}
+use Rattle.disk_defs.specs.Disk.{State, held, size_of, told_of, told_image, state_after, state_after_all}
+use Rattle.disk_defs.specs.declared.Area.TheVariants.{Image, Journal}
+use Rattle.journal_defs.specs.Form.{IsOpen}
+use Rattle.rule_defs.specs.declared.Rule.{Rule}
+use Rattle.rule_defs.specs.Reads.{Reads, SaysNoRules}
+use Rattle.rx_ranges.specs.PlanChecks.{IsPlan}
+use Rattle.rx_ranges.specs.declared.plan.Plan.{Plan}
+use Rattle.rx_ranges.specs.declared.plan.TheConstants.{MAX_RANGES}
+use Rattle.rx_tree.specs.TreeValue.{TreeValue}
+use Rattle.volume_defs.specs.FirstTree.{first_tree}
+use Rattle.plan_defs.specs.Plan.{plan_of, guarded_byte}
+use Rattle.session_defs.specs.Script.{script, changes_of}
+use Rattle.session_defs.specs.Session.{SessionValue, HasSizes, Begun, IsStopped, calls_of, new_session}
+use Rattle.text_defs.specs.Report.{report}
+use Rattle.text_defs.specs.declared.ReportState.TheVariants as state
+use Rattle.rule_parse.specs.declared.RuleFault.{RuleFault}
+use Rattle.rule_parse.specs.declared.RuleFault.TheVariants as rules
+use Rattle.rx_plan.specs.declared.PlanFault.{PlanFault}
+use Rattle.rx_plan.specs.declared.PlanFault.TheVariants as plan
+use Rattle.cmd_defs.specs.JournalFacts.{IsUntouched}
+use Rattle.cmd_defs.specs.Outcome.{IfTextAndHeld}
+use Rattle.cmd_defs.specs.PlanCommand.{SaysRules, HasNoForm}
+use Rattle.cmd_defs.specs.RedactCommand.{IsPlanned, IsRedacted, HasRedacted, RedactSays}
+use Rattle.cmd_defs.specs.declared.status.Status.{Status}
+use Rattle.cmd_defs.specs.declared.status.Status.TheVariants.{DeviceFault, NotBuilt, JournalOpen}
+use Rattle.cmd_defs.proofs.StoreLaws.{script_carried}
+use Rattle.first_reader.specs.Gives.{GivesTree}
+use Rattle.first_reader.specs.declared.fault.FirstReadFault.{FirstReadFault}
+use Rattle.first_reader.specs.declared.fault.FirstReadFault.TheVariants as image
+use Rattle.redact_cmd.specs.Stages.{status_of_rules, status_of_reading, status_of_planning}
+use Rattle.redact_cmd.proofs.Says.{NamesGuarded, NamesLimit}
+
+-- ---- the rules
+
+rules_say : (text : Option (List ℕ)) (told : Option Held) (before now : State) (W P : List ℕ → Type 0) (fault : RuleFault) → (fault ≡ rules.OtherForm → IfSome text SaysNoRules)
+    → IfTextAndHeld text told (λ t h. RedactSays (status_of_rules fault) t h before now W P)
+rules_say None told before now W P fault other = tt
+rules_say (Some t) None before now W P fault other = tt
+rules_say (Some t) (Some h) before now W P rules.OtherForm other =
+    let none = other refl in
+    (λ found tree forms. none found forms.reads, λ says. absurd (none says.0 says.1))
+rules_say (Some t) (Some h) before now W P rules.Source other = tt
+rules_say (Some t) (Some h) before now W P rules.NoMemory other = tt
+
+pub no_rules : (text : Option (List ℕ)) (told : Option Held) (before now : State) (W P : List ℕ → Type 0) (fault : RuleFault) (status : Status) → status ≡ status_of_rules fault
+    → (fault ≡ rules.OtherForm → IfSome text SaysNoRules) → IfTextAndHeld text told (λ t h. RedactSays status t h before now W P)
+no_rules text told before now W P fault status is other =
+    subst (λ status. IfTextAndHeld text told (λ t h. RedactSays status t h before now W P)) (sym is) (rules_say text told before now W P fault other)
+
+-- ---- the journal
+
+-- a call failed before the session
+pub failed_before : (text : Option (List ℕ)) (told : Option Held) (before now : State) (W P : List ℕ → Type 0) (rules : List Rule) → IfSome text (λ t. Reads t rules)
+    → IsUntouched before now → IfTextAndHeld text told (λ t h. RedactSays DeviceFault t h before now W P)
+failed_before None told before now W P rules reads untouched = tt
+failed_before (Some t) None before now W P rules reads untouched = tt
+failed_before (Some t) (Some h) before now W P rules reads untouched = ((rules, reads), inl untouched)
+
+pub journal_open : (text : Option (List ℕ)) (told : Option Held) (before now : State) (W P : List ℕ → Type 0) (rules : List Rule) → IfSome text (λ t. Reads t rules)
+    → IfSome told (λ h. IsOpen h.journal) → IfTextAndHeld text told (λ t h. RedactSays JournalOpen t h before now W P)
+journal_open None told before now W P rules reads stands = tt
+journal_open (Some t) None before now W P rules reads stands = tt
+journal_open (Some t) (Some h) before now W P rules reads stands = ((rules, reads), stands)
+
+-- ---- the image
+
+reading_says : (text : Option (List ℕ)) (told : Option Held) (before now : State) (W P : List ℕ → Type 0) (rules : List Rule) (fault : FirstReadFault) → IfSome text (λ t. Reads t rules)
+    → IsUntouched before now → IfSome told (λ h. ¬ (IsOpen h.journal)) → IfSome told (λ h. GivesTree (Err fault) (first_tree h.image))
+    → IfTextAndHeld text told (λ t h. RedactSays (status_of_reading fault) t h before now W P)
+reading_says None told before now W P rules fault reads untouched closed gives = tt
+reading_says (Some t) None before now W P rules fault reads untouched closed gives = tt
+reading_says (Some t) (Some h) before now W P rules image.Device reads untouched closed gives = ((rules, reads), inl untouched)
+reading_says (Some t) (Some h) before now W P rules image.NoMemory reads untouched closed gives = tt
+reading_says (Some t) (Some h) before now W P rules image.OtherForm reads untouched closed gives =
+    (λ found tree forms. let both = sym gives ∙ forms.tree_is in cc, λ says. closed)
+
+pub no_tree : (text : Option (List ℕ)) (told : Option Held) (before now : State) (W P : List ℕ → Type 0) (rules : List Rule) (fault : FirstReadFault) (status : Status)
+    → status ≡ status_of_reading fault → IfSome text (λ t. Reads t rules)
+    → IsUntouched before now → IfSome told (λ h. ¬ (IsOpen h.journal)) → IfSome told (λ h. GivesTree (Err fault) (first_tree h.image))
+    → IfTextAndHeld text told (λ t h. RedactSays status t h before now W P)
+no_tree text told before now W P rules fault status is reads untouched closed gives =
+    subst (λ status. IfTextAndHeld text told (λ t h. RedactSays status t h before now W P)) (sym is) (reading_says text told before now W P rules fault reads untouched closed gives)
+
+-- ---- the plan
+
+planning_says : (text : Option (List ℕ)) (told : Option Held) (before now : State) (W P : List ℕ → Type 0) (rules : List Rule) (tree : TreeValue) (fault : PlanFault)
+    → IfSome text (λ t. Reads t rules) → IfSome told (λ h. ¬ (IsOpen h.journal)) → IfSome told (λ h. first_tree h.image ≡ Ok tree)
+    → NamesGuarded tree rules fault → NamesLimit tree rules fault → IfTextAndHeld text told (λ t h. RedactSays (status_of_planning fault) t h before now W P)
+planning_says None told before now W P rules tree fault reads closed tree_is guarded limit = tt
+planning_says (Some t) None before now W P rules tree fault reads closed tree_is guarded limit = tt
+planning_says (Some t) (Some h) before now W P rules tree (plan.MeetsGuard at rule) reads closed tree_is guarded limit =
+    let meets = guarded at rule refl in
+    ((rules, tree, record { reads = reads; tree_is = tree_is }, meets.0, meets.1), closed)
+planning_says (Some t) (Some h) before now W P rules tree (plan.Limit bound number) reads closed tree_is guarded limit =
+    let passed = limit bound number refl in
+    ((rules, tree, record { reads = reads; tree_is = tree_is }, passed.0, passed.1, passed.2), closed)
+planning_says (Some t) (Some h) before now W P rules tree plan.NoMemory reads closed tree_is guarded limit = tt
+
+pub no_plan : (text : Option (List ℕ)) (told : Option Held) (before now : State) (W P : List ℕ → Type 0) (rules : List Rule) (tree : TreeValue) (fault : PlanFault) (status : Status)
+    → status ≡ status_of_planning fault → IfSome text (λ t. Reads t rules) → IfSome told (λ h. ¬ (IsOpen h.journal)) → IfSome told (λ h. first_tree h.image ≡ Ok tree)
+    → NamesGuarded tree rules fault → NamesLimit tree rules fault → IfTextAndHeld text told (λ t h. RedactSays status t h before now W P)
+no_plan text told before now W P rules tree fault status is reads closed tree_is guarded limit =
+    subst (λ status. IfTextAndHeld text told (λ t h. RedactSays status t h before now W P)) (sym is) (planning_says text told before now W P rules tree fault reads closed tree_is guarded limit)
+
+-- the plan of a tree has the length of the tree's image
+plan_len : (tree : TreeValue) (rules : List Rule) → (plan_of tree rules).image_len ≡ tree.image_len
+unfolding plan_of
+plan_len tree rules = refl
+
+pub sized_plan : (tree : TreeValue) (rules : List Rule) (plan : Plan) (size : ℕ) → plan ≡ plan_of tree rules → tree.image_len ≡ size → size ≡ plan.image_len
+sized_plan tree rules plan size is sized = sym sized ∙ sym (plan_len tree rules) ∙ ap (λ (plan : Plan). plan.image_len) (sym is)
+
+-- ---- the session
+
+planned : (t : List ℕ) (h : Held) (rules : List Rule) (tree : TreeValue) (plan : Plan) → plan ≡ plan_of tree rules → IsPlan plan → Reads t rules → ¬ (IsOpen h.journal)
+    → first_tree h.image ≡ Ok tree → guarded_byte tree rules ≡ None → IsPlanned t h rules tree
+planned t h rules tree plan is is_plan reads closed tree_is unguarded = record {
+  forms = record { reads = reads; tree_is = tree_is };
+  closed = closed;
+  unguarded = unguarded;
+  few_ranges = subst (λ (plan : Plan). length plan.ranges ≤ MAX_RANGES) is is_plan.few_ranges;
+}
+
+-- the session of the plan
+session_calls : (plan : Plan) (session : SessionValue) → session ≡ new_session plan Begun None → changes_of (calls_of session.plan session.start) ≡ changes_of (script plan)
+session_calls plan session is = ap (λ (session : SessionValue). changes_of (calls_of session.plan session.start)) is
+
+pub redact_stopped : (text : Option (List ℕ)) (told : Option Held) (before synced now : State) (W P : List ℕ → Type 0) (rules : List Rule) (tree : TreeValue) (plan : Plan) (session : SessionValue)
+    → plan ≡ plan_of tree rules → IsPlan plan → session ≡ new_session plan Begun None → synced ≡ state_after Sync before
+    → IsStopped (changes_of (calls_of session.plan session.start)) synced now → IfSome text (λ t. Reads t rules) → IfSome told (λ h. ¬ (IsOpen h.journal))
+    → IfSome told (λ h. first_tree h.image ≡ Ok tree) → guarded_byte tree rules ≡ None → IfTextAndHeld text told (λ t h. RedactSays DeviceFault t h before now W P)
+redact_stopped None told before synced now W P rules tree plan session plan_is is_plan session_is is stopped reads closed tree_is unguarded = tt
+redact_stopped (Some t) None before synced now W P rules tree plan session plan_is is_plan session_is is stopped reads closed tree_is unguarded = tt
+redact_stopped (Some t) (Some h) before synced now W P rules tree plan session plan_is is_plan session_is is stopped reads closed tree_is unguarded =
+    let calls = session_calls plan session session_is ∙ ap (λ plan. changes_of (script plan)) plan_is in
+    ((rules, reads), inr (rules, tree, planned t h rules tree plan plan_is is_plan reads closed tree_is unguarded,
+    subst (λ state. IsStopped (changes_of (script (plan_of tree rules))) state now) is (subst (λ changes. IsStopped changes synced now) calls stopped)))
+
+pub redacted : (text : Option (List ℕ)) (told : Option Held) (before synced now : State) (W : List ℕ → Type 0) (rules : List Rule) (tree : TreeValue) (plan : Plan) (session : SessionValue) (size : ℕ)
+    → held before ≡ told → plan ≡ plan_of tree rules → IsPlan plan → session ≡ new_session plan Begun None → synced ≡ state_after Sync before
+    → now ≡ state_after_all (changes_of (calls_of session.plan session.start)) synced → IfSome text (λ t. Reads t rules) → IfSome told (λ h. ¬ (IsOpen h.journal))
+    → IfSome told (λ h. first_tree h.image ≡ Ok tree) → guarded_byte tree rules ≡ None → IfSome told (λ h. length h.image ≡ size) → size ≡ plan.image_len
+    → W (report plan state.Done) → IfTextAndHeld text told (λ t h. HasRedacted t h before now W)
+redacted None told before synced now W rules tree plan session size told_is plan_is is_plan session_is is done reads closed tree_is unguarded sized fits wrote = tt
+redacted (Some t) None before synced now W rules tree plan session size told_is plan_is is_plan session_is is done reads closed tree_is unguarded sized fits wrote = tt
+redacted (Some t) (Some h) before synced now W rules tree plan session size told_is plan_is is_plan session_is is done reads closed tree_is unguarded sized fits wrote =
+    let made : now ≡ state_after_all (changes_of (script plan)) (state_after Sync before) =
+    done ∙ ap (λ changes. state_after_all changes synced) (session_calls plan session session_is) ∙ ap (state_after_all (changes_of (script plan))) is in
+    (rules, tree, planned t h rules tree plan plan_is is_plan reads closed tree_is unguarded,
+    subst (λ plan. IsRedacted h plan before now) plan_is (script_carried plan before now h is_plan (sized ∙ fits) told_is made),
+    subst (λ plan. W (report plan state.Done)) plan_is wrote)
+
+-- the sizes with which the session of a plan begins
+pub begun_sizes : (plan : Plan) (session : SessionValue) (state : State) → session ≡ new_session plan Begun None → size_of Image state ≡ plan.image_len → HasSizes session state
+begun_sizes plan session state is sized = subst (λ (session : SessionValue). HasSizes session state) (sym is) (record { image = sized; journal = tt })
