@@ -1,6 +1,6 @@
 -- What a store holds has one answer of each command of the journal, and a status that says so is that answer, or a fault or want of
 -- memory.
-use Rattle.std.proofs.Common.{◌≡◌, ◌≢◌, refl, ap, ℕ, Bool, Some, None, List, sym, ◌∙◌, ◌⊎◌, inl, inr}
+use Rattle.std.proofs.Common.{◌≡◌, ◌≢◌, refl, ap, ℕ, Bool, Some, None, List, sym, ◌∙◌, ◌⊎◌, inl, inr, Option, IfSome}
 use Rattle.disk_defs.specs.Story.{Held}
 use Rattle.disk_defs.specs.Disk.{State}
 use Rattle.journal_defs.specs.Checks.{bad_at}

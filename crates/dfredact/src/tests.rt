@@ -2,7 +2,7 @@
 ghost use Rattle.std.specs.Io.{WritesAtMost};
 
 use super::{answer_to, words_of};
-use redact_cmd::Status;
+use redact_cmd::{JournalRefusal, Status};
 use rx_store::{MemSink, StdSink};
 use std::alloc::{AllocError, Global};
 use std::env::{Env, FillError};
@@ -41,6 +41,10 @@ const NUMBERS: [(usize, u32); 27] = [
     (86_016, 0x0063_6261),
 ];
 
+/// What is reported of it when `a` was filled.
+const REPORT: &str =
+    "redaction done\nimage 262144\nranges 1\nbytes 3\nRANGE 86016 3 1 0x58\nFILE 1 /a\n";
+
 fn small_image(alloc: Global) -> Result<Vec<u8>, AllocError> {
     let mut image = vec![in alloc; 0u8; 262_144]?;
     for (at, number) in NUMBERS {
@@ -68,7 +72,7 @@ fn place(rt: &HostRuntime, name: &str) -> io::Result<String> {
 }
 
 /// What the program answers to these words, with its answer to a file.
-fn status_of(rt: &HostRuntime, words: [&str; 3], out: &str) -> io::Result<Status> {
+fn status_of(rt: &HostRuntime, words: &[&str], out: &str) -> io::Result<Status> {
     let mut copied = Vec::new(rt.alloc());
     for word in words {
         copied.push(String::from_str(rt.alloc(), word)?)?;
@@ -128,11 +132,46 @@ fn the_words_name_the_files(rt: HostRuntime) -> Result<(), Fail> {
         ),
     ];
     for (i, (words, out, want)) in rows.into_iter().enumerate() {
-        let status = status_of(&rt, words, out)?;
+        let status = status_of(&rt, &words, out)?;
         assert_eq!(rt; status, want, "at {i}");
     }
     assert_eq!(rt; fs::read_to_string(&rt, &out)?.as_str(), "");
     for path in [&image, &rules, &out] {
+        fs::remove_file(&rt, path)?;
+    }
+    Ok(())
+}
+
+#[test]
+fn an_image_is_redacted_and_its_journal_kept(rt: HostRuntime) -> Result<(), Fail> {
+    let image = place(&rt, "redacted")?;
+    let journal = place(&rt, "journal")?;
+    let link = place(&rt, "link")?;
+    let rules = place(&rt, "its_rules")?;
+    let out = place(&rt, "its_out")?;
+    fs::write(&rt, &image, &small_image(rt.alloc())?)?;
+    fs::write(&rt, &rules, "FILENAME \"a\" FILL 0x58\n")?;
+    fs::hard_link(&rt, &image, &link)?;
+    let redact = ["redact", image.as_str(), journal.as_str(), rules.as_str()];
+    let linked = ["redact", image.as_str(), link.as_str(), rules.as_str()];
+    let resume = ["resume", image.as_str(), journal.as_str()];
+    let missing = ["resume", image.as_str(), rules.as_str()];
+    let report = ["report", journal.as_str()];
+    assert_eq!(rt; status_of(&rt, &linked, &out)?, Status::DeviceFault);
+    assert_eq!(rt; status_of(&rt, &redact, &out)?, Status::Done);
+    assert_eq!(rt; status_of(&rt, &redact, &out)?, Status::JournalOpen);
+    assert_eq!(rt; status_of(&rt, &resume, &out)?, Status::Done);
+    assert_eq!(rt;
+        status_of(&rt, &missing, &out)?,
+        Status::JournalRefused(JournalRefusal::NotOpen)
+    );
+    assert_eq!(rt; status_of(&rt, &report, &out)?, Status::Done);
+    assert_eq!(rt; fs::read_to_string(&rt, &out)?.as_str(), REPORT);
+    let mut filled = small_image(rt.alloc())?;
+    put(&mut filled, 86_016, 0x0058_5858);
+    assert!(rt; fs::read(&rt, &image)? == filled);
+    assert_eq!(rt; fs::read(&rt, &journal)?.len(), 75);
+    for path in [&image, &journal, &link, &rules, &out] {
         fs::remove_file(&rt, path)?;
     }
     Ok(())

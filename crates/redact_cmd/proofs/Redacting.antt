@@ -1,8 +1,8 @@
 -- What a status of `redact` says where a stage gave it.
-use Rattle.std.proofs.Common.{◌≡◌, ◌≤◌, ℕ, Option, Some, None, IfSome, Ok, Err, List, length, refl, sym, ◌∙◌, ap, subst, inl, inr, ◌⊎◌}
+use Rattle.std.proofs.Common.{◌≡◌, ◌≤◌, ℕ, Option, Some, None, IfSome, Ok, Err, List, length, refl, sym, ◌∙◌, ap, subst, inl, inr}
 use Rattle.disk_defs.specs.Story.{Held, Sync}
-use Rattle.disk_defs.specs.Disk.{State, held, size_of, told_of, told_image, state_after, state_after_all}
-use Rattle.disk_defs.specs.declared.Area.TheVariants.{Image, Journal}
+use Rattle.disk_defs.specs.Disk.{State, held, size_of, state_after, state_after_all}
+use Rattle.disk_defs.specs.declared.Area.TheVariants.{Image}
 use Rattle.journal_defs.specs.Form.{IsOpen}
 use Rattle.rule_defs.specs.declared.Rule.{Rule}
 use Rattle.rule_defs.specs.Reads.{Reads, SaysNoRules}
@@ -22,10 +22,9 @@ use Rattle.rx_plan.specs.declared.PlanFault.{PlanFault}
 use Rattle.rx_plan.specs.declared.PlanFault.TheVariants as plan
 use Rattle.cmd_defs.specs.JournalFacts.{IsUntouched}
 use Rattle.cmd_defs.specs.Outcome.{IfTextAndHeld}
-use Rattle.cmd_defs.specs.PlanCommand.{SaysRules, HasNoForm}
 use Rattle.cmd_defs.specs.RedactCommand.{IsPlanned, IsRedacted, HasRedacted, RedactSays}
 use Rattle.cmd_defs.specs.declared.status.Status.{Status}
-use Rattle.cmd_defs.specs.declared.status.Status.TheVariants.{DeviceFault, NotBuilt, JournalOpen}
+use Rattle.cmd_defs.specs.declared.status.Status.TheVariants.{DeviceFault, JournalOpen}
 use Rattle.cmd_defs.proofs.StoreLaws.{script_carried}
 use Rattle.first_reader.specs.Gives.{GivesTree}
 use Rattle.first_reader.specs.declared.fault.FirstReadFault.{FirstReadFault}
@@ -135,9 +134,15 @@ pub redact_stopped : (text : Option (List ℕ)) (told : Option Held) (before syn
 redact_stopped None told before synced now W P rules tree plan session plan_is is_plan session_is is stopped reads closed tree_is unguarded = tt
 redact_stopped (Some t) None before synced now W P rules tree plan session plan_is is_plan session_is is stopped reads closed tree_is unguarded = tt
 redact_stopped (Some t) (Some h) before synced now W P rules tree plan session plan_is is_plan session_is is stopped reads closed tree_is unguarded =
-    let calls = session_calls plan session session_is ∙ ap (λ plan. changes_of (script plan)) plan_is in
-    ((rules, reads), inr (rules, tree, planned t h rules tree plan plan_is is_plan reads closed tree_is unguarded,
-    subst (λ state. IsStopped (changes_of (script (plan_of tree rules))) state now) is (subst (λ changes. IsStopped changes synced now) calls stopped)))
+    let calls = session_calls plan session session_is ∙ ap (λ plan. changes_of (script plan)) plan_is in (
+      (rules, reads),
+      inr (
+        rules,
+        tree,
+        planned t h rules tree plan plan_is is_plan reads closed tree_is unguarded,
+        subst (λ state. IsStopped (changes_of (script (plan_of tree rules))) state now) is (subst (λ changes. IsStopped changes synced now) calls stopped),
+      ),
+    )
 
 pub redacted : (text : Option (List ℕ)) (told : Option Held) (before synced now : State) (W : List ℕ → Type 0) (rules : List Rule) (tree : TreeValue) (plan : Plan) (session : SessionValue) (size : ℕ)
     → held before ≡ told → plan ≡ plan_of tree rules → IsPlan plan → session ≡ new_session plan Begun None → synced ≡ state_after Sync before
@@ -148,10 +153,13 @@ redacted None told before synced now W rules tree plan session size told_is plan
 redacted (Some t) None before synced now W rules tree plan session size told_is plan_is is_plan session_is is done reads closed tree_is unguarded sized fits wrote = tt
 redacted (Some t) (Some h) before synced now W rules tree plan session size told_is plan_is is_plan session_is is done reads closed tree_is unguarded sized fits wrote =
     let made : now ≡ state_after_all (changes_of (script plan)) (state_after Sync before) =
-    done ∙ ap (λ changes. state_after_all changes synced) (session_calls plan session session_is) ∙ ap (state_after_all (changes_of (script plan))) is in
-    (rules, tree, planned t h rules tree plan plan_is is_plan reads closed tree_is unguarded,
-    subst (λ plan. IsRedacted h plan before now) plan_is (script_carried plan before now h is_plan (sized ∙ fits) told_is made),
-    subst (λ plan. W (report plan state.Done)) plan_is wrote)
+    done ∙ ap (λ changes. state_after_all changes synced) (session_calls plan session session_is) ∙ ap (state_after_all (changes_of (script plan))) is in (
+      rules,
+      tree,
+      planned t h rules tree plan plan_is is_plan reads closed tree_is unguarded,
+      subst (λ plan. IsRedacted h plan before now) plan_is (script_carried plan before now h is_plan (sized ∙ fits) told_is made),
+      subst (λ plan. W (report plan state.Done)) plan_is wrote,
+    )
 
 -- the sizes with which the session of a plan begins
 pub begun_sizes : (plan : Plan) (session : SessionValue) (state : State) → session ≡ new_session plan Begun None → size_of Image state ≡ plan.image_len → HasSizes session state

@@ -1,5 +1,5 @@
 -- What a status of `resume` says where a stage gave it.
-use Rattle.std.proofs.Common.{◌≡◌, ◌≢◌, ℕ, Bool, Option, Some, None, IfSome, Result, Ok, Err, List, length, refl, sym, ◌∙◌, ap, subst, ⊎_elim, inl, inr}
+use Rattle.std.proofs.Common.{◌≡◌, ◌≢◌, ℕ, Bool, Option, Some, None, IfSome, Result, Ok, Err, List, length, refl, sym, ◌∙◌, ap, subst, ⊎_elim, inr}
 use Rattle.std.proofs.lemmas.Bool.Decides.{eqb_tells}
 use Rattle.disk_defs.specs.Story.{Held, Sync}
 use Rattle.disk_defs.specs.Disk.{State, held, size_of, told_of, told_journal, state_after, state_after_all}
@@ -68,8 +68,13 @@ pub resume_stopped : (told : Option Held) (before synced now : State) (W P : Lis
     → IfSome told (λ held. length held.image ≡ found) → IfSome told (λ held. ResumeSays DeviceFault held before now W P)
 resume_stopped None before synced now W P plan groups last found session session_is fits is stopped holds sized = tt
 resume_stopped (Some held) before synced now W P plan groups last found session session_is fits is stopped holds sized =
-    inr (plan, groups, last, record { holds = holds; fits = fits ∙ sym sized },
-    subst (λ state. IsStopped (changes_of (rest_of plan groups last)) state now) is (subst (λ changes. IsStopped changes synced now) (session_calls plan groups last session session_is) stopped))
+    inr (
+      plan,
+      groups,
+      last,
+      record { holds = holds; fits = fits ∙ sym sized },
+      subst (λ state. IsStopped (changes_of (rest_of plan groups last)) state now) is (subst (λ changes. IsStopped changes synced now) (session_calls plan groups last session session_is) stopped),
+    )
 
 pub resumed : (told : Option Held) (before synced now : State) (P : List ℕ → Type 0) (plan : Plan) (groups : List Bool) (last : Bool) (found : ℕ) (session : SessionValue)
     → held before ≡ told → session ≡ new_session plan (Resumed groups last) (Some (journal_len plan)) → plan.image_len ≡ found → synced ≡ state_after Sync before

@@ -170,10 +170,8 @@ fn text_of(status: &Status) -> &'static str
         Status::SinkFault => "output failed",
         Status::NoMemory => "out of memory",
         Status::NotBuilt => "not built yet",
-        Status::Done
-        | Status::PlanRefused(_)
-        | Status::JournalRefused(_)
-        | Status::Limit(_, _) => "",
+        Status::Done | Status::PlanRefused(_) | Status::JournalRefused(_) | Status::Limit(_, _) =>
+            "",
     }
 }
 

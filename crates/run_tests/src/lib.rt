@@ -11,4 +11,6 @@ mod paths;
 #[cfg(test)]
 mod plan;
 #[cfg(test)]
+mod redact;
+#[cfg(test)]
 mod small_image;

@@ -139,7 +139,6 @@ fn other_commands_and_rule_texts_are_not_built(rt: HostRuntime) -> Result<(), Fa
     let alloc = rt.alloc();
     for words in [
         ["inventory", "IMAGE"].as_slice(),
-        ["redact", "IMAGE", "JOURNAL", "RULES"].as_slice(),
         ["selftest", "ufs2", "7", "40"].as_slice(),
     ] {
         let (status, text) = outcome(alloc, words, small_image(alloc)?, RULE, &NO_TROUBLE)?;

@@ -1,7 +1,7 @@
 use Rattle.std.proofs.Common.{◌≡◌, ℕ, List, ap, refl, ◌∙◌}
 use Rattle.disk_defs.specs.Disk.{held, size_of}
 use Rattle.disk_defs.specs.Stream.{taken_with, TookPrefixOf}
-use Rattle.disk_defs.specs.declared.Area.TheVariants.{Image, Journal}
+use Rattle.disk_defs.specs.declared.Area.TheVariants.{Image}
 use Rattle.redact_cmd.proofs.Resuming.{has_length, held_plan, held_length, fits_refused, resume_stopped, resumed}
 use Rattle.redact_cmd.proofs.resume_command.resume.Goals as goal
 
