@@ -59,7 +59,7 @@ module _ (image : List ℕ) (sup : Super) (volume : ℕ) (sound : wrong_field su
   somewhere name among = All-contains (IsSomewhere image sup volume all.root sound) walk.names name all.ended.at.all among
 
   -- what is reached lies above the depth at which the walk ended
-  shallow : (number place depth : ℕ) (path : List ℕ) → IsReached image sup number place depth path → depth ≤ all.ended.last
+  pub shallow : (number place depth : ℕ) (path : List ℕ) → IsReached image sup number place depth path → depth ≤ all.ended.last
   shallow number place depth path Root = omega arith
   shallow number place depth path (Through from at d p directory offset pl entry reached read good has) =
       let before = shallow from at d p reached in
@@ -71,18 +71,18 @@ module _ (image : List ℕ) (sup : Super) (volume : ℕ) (sound : wrong_field su
       (λ differ. omega (arith, before, differ))
       (cases_eq d all.ended.last)
 
-  named_at : (number place depth : ℕ) (path : List ℕ) → IsReached image sup number place depth path → IsNamedAt image sup volume sound all.ended.last walk.names [] number depth path
+  pub named_at : (number place depth : ℕ) (path : List ℕ) → IsReached image sup number place depth path → IsNamedAt image sup volume sound all.ended.last walk.names [] number depth path
   named_at number place depth path reached = all.ended.closed number place depth path reached (shallow number place depth path reached)
 
   -- each of it is read, and sound
-  record IsFoundAs (number : ℕ) : Type 0 where
-    name : Named
-    among : Contains walk.names name
-    is : name.number ≡ number
-    inside : has_inode sup number ≡ true
-    read : result_of image (inode_at sup number) ≡ Ok name.inode
+  pub record IsFoundAs (number : ℕ) : Type 0 where
+    pub name : Named
+    pub among : Contains walk.names name
+    pub is : name.number ≡ number
+    pub inside : has_inode sup number ≡ true
+    pub read : result_of image (inode_at sup number) ≡ Ok name.inode
 
-  found_as : (number place depth : ℕ) (path : List ℕ) → IsReached image sup number place depth path → IsFoundAs number
+  pub found_as : (number place depth : ℕ) (path : List ℕ) → IsReached image sup number place depth path → IsFoundAs number
   found_as number place depth path reached =
       let named = named_at number place depth path reached in
       let found = (somewhere named.name named.among).1 in
@@ -91,20 +91,27 @@ module _ (image : List ℕ) (sup : Super) (volume : ℕ) (sound : wrong_field su
       let R : ℕ → Type 0 = λ n. result_of image (inode_at sup n) ≡ Ok named.name.inode in
       record { name = named.name; among = named.among; is = named.number_is; inside = subst H named.number_is gives.0; read = subst R named.number_is gives.1 }
 
+  -- its number is that of a file
+  pub number_is : (number place depth : ℕ) (path : List ℕ) → IsReached image sup number place depth path → Contains (numbers_of walk.names) number
+  number_is number place depth path reached =
+      let found = found_as number place depth path reached in
+      let N : ℕ → Type 0 = λ n. Contains (map (λ (name : Named). name.number) walk.names) n in
+      (rising_numbers_law (map (λ (name : Named). name.number) walk.names)).1.all number (subst N found.is (number_among found.name walk.names found.among))
+
   sound_inode : (number : ℕ) (inode : Inode) → HasInode image sup number inode → IsSoundInode sup inode
   sound_inode number inode has =
       let found = found_as number has.place has.depth has.path has.reached in
       sound_of image sup volume number found.name.inode inode (inode_read image sup number found.name.inode found.read) has
 
   -- a directory that is reached was walked
-  record IsWalkedAs (number : ℕ) (inode : Inode) : Type 0 where
-    name : Named
-    among : Contains walk.names name
-    is : name.number ≡ number
-    inode_is : name.inode ≡ inode
-    walked : IsWalkedIn image sup volume sound name walk.names
+  pub record IsWalkedAs (number : ℕ) (inode : Inode) : Type 0 where
+    pub name : Named
+    pub among : Contains walk.names name
+    pub is : name.number ≡ number
+    pub inode_is : name.inode ≡ inode
+    pub walked : IsWalkedIn image sup volume sound name walk.names
 
-  walked_as : (number : ℕ) (inode : Inode) (place depth : ℕ) (path : List ℕ) → IsReached image sup number place depth path → stored_inode image sup number ≡ inode → is_directory inode ≡ true → IsWalkedAs number inode
+  pub walked_as : (number : ℕ) (inode : Inode) (place depth : ℕ) (path : List ℕ) → IsReached image sup number place depth path → stored_inode image sup number ≡ inode → is_directory inode ≡ true → IsWalkedAs number inode
   walked_as number inode place depth path reached stored is =
       let named = named_at number place depth path reached in
       let found = (somewhere named.name named.among).1 in
@@ -176,10 +183,7 @@ module _ (image : List ℕ) (sup : Super) (volume : ℕ) (sound : wrong_field su
   none_false sort place (TooLong number inode has long) = not_long image sup volume inode (sound_inode number inode has) long
   none_false sort place (ExtendedTooLong number inode has long) = not_extended_long image sup volume inode (sound_inode number inode has) long
   none_false sort place (BadPointer number inode section at has among bad) =
-      let found = found_as number has.has.place has.has.depth has.has.path has.has.reached in
-      let N : ℕ → Type 0 = λ n. Contains (map (λ (name : Named). name.number) walk.names) n in
-      let one : Contains (numbers_of walk.names) number = (rising_numbers_law (map (λ (name : Named). name.number) walk.names)).1.all number (subst N found.is (number_among found.name walk.names found.among)) in
-      files_sound image sup volume sound walk.names filed files_are number inode section at one has.read among bad
+      files_sound image sup volume sound walk.names filed files_are number inode section at (number_is number has.has.place has.has.depth has.has.path has.has.reached) has.read among bad
   none_false sort place (OtherSize number inode has is odd) =
       let walked = walked_as number inode has.has.place has.has.depth has.has.path has.has.reached has.has.is is in
       let W : Inode → Type 0 = λ i. i.size % 512 ≡ 0 in
@@ -266,16 +270,16 @@ module _ (image : List ℕ) (sup : Super) (volume : ℕ) (sound : wrong_field su
 
 -- ---- a volume that is read
 
-record IsAccepted (orders : List Order) (image : List ℕ) (volume : Range) (number : ℕ) : Type 0 where
-  sup : Super
-  has : HasSuper orders image volume sup
-  short : length image ≤ LONGEST_IMAGE
-  walk : Walk
-  names : result_of image (volume_names sup) ≡ Ok walk
-  filed : Filed
-  files : result_of image (named_files sup number walk.names) ≡ Ok filed
+pub record IsAccepted (orders : List Order) (image : List ℕ) (volume : Range) (number : ℕ) : Type 0 where
+  pub sup : Super
+  pub has : HasSuper orders image volume sup
+  pub short : length image ≤ LONGEST_IMAGE
+  pub walk : Walk
+  pub names : result_of image (volume_names sup) ≡ Ok walk
+  pub filed : Filed
+  pub files : result_of image (named_files sup number walk.names) ≡ Ok filed
 
-accepted : (orders : List Order) (image : List ℕ) (volume : Range) (number : ℕ) (found : FoundVolume) → result_of image (volume_at orders (length image) volume number) ≡ Ok found → IsAccepted orders image volume number
+pub accepted : (orders : List Order) (image : List ℕ) (volume : Range) (number : ℕ) (found : FoundVolume) → result_of image (volume_at orders (length image) volume number) ≡ Ok found → IsAccepted orders image volume number
 unfolding volume_at files_below
 accepted orders image volume number found is =
     let sup = bind_gives image (volume_super orders volume) (λ sup. check (nat_le (length image) LONGEST_IMAGE) (Limit Image LONGEST_IMAGE) >> files_below sup number) found is in

@@ -1,3 +1,4 @@
 pub mod StreamLooks
 pub mod NameLooks
 pub mod VolumeLooks
+pub mod GuardSeen
