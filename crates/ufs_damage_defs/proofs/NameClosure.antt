@@ -63,10 +63,10 @@ stays_behind start F stays before after has holds = record {
 holds_of : (start : List Named) (F : List Named → Type 0) (walk : Walk) (more : List Named) → walk.names ≡ start ++ more → HoldsBehind start F walk → F more
 holds_of start F walk more grown holds = subst F (append_cancel_left start holds.more more (sym holds.grown ∙ grown)) holds.holds
 
-more_same : (walk : Walk) → HasMore walk walk
+pub more_same : (walk : Walk) → HasMore walk walk
 more_same walk = ([], sym (append-nil walk.names))
 
-more_more : (first second third : Walk) → HasMore first second → HasMore second third → HasMore first third
+pub more_more : (first second third : Walk) → HasMore first second → HasMore second third → HasMore first third
 more_more first second third one two = (one.0 ++ two.0, two.1 ∙ ap (λ names. names ++ two.0) one.1 ∙ append_assoc first.names one.0 two.0)
 
 module _ (image : List ℕ) (sup : Super) (volume : ℕ) (sound : wrong_field sup ≡ None) where

@@ -1,56 +1,43 @@
 -- Each byte of a volume's guard is looked at.
-use Rattle.std.specs.Prelude.{◌≡◌, ◌⊎◌, ℕ, zero, suc, ◌+◌, ◌-◌, ◌*◌, ◌%◌, ◌<◌, ◌≤◌, ◌==◌, ◌&&◌, not, min, nat_le, pos, Bool, true, false, Option, Some, None, Result, Ok, Err, List, [], ◌∷◌, ◌++◌, length, drop, map, refl}
+use Rattle.std.specs.Prelude.{◌≡◌, ◌⊎◌, ℕ, zero, suc, ◌%◌, ◌==◌, pos, true, None, Ok, List, [], ◌∷◌, length, drop, refl}
 use Rattle.std.specs.List.{All, Contains, filter}
-use Rattle.std.proofs.Common.{ap, sym, ◌∙◌, subst, arith, inl, inr, ⊎_elim, append_assoc, append-nil}
-use Rattle.std.proofs.lemmas.Bool.{cases_eq}
+use Rattle.std.proofs.Common.{ap, sym, ◌∙◌, subst, arith, inl, inr, ⊎_elim}
 use Rattle.std.proofs.lemmas.List.Elements.{All-contains, All-weaker, All-append, All-cons, All-nil, All-contains_itself}
 use Rattle.range_defs.specs.declared.Range.{Range}
-use Rattle.range_defs.specs.declared.TheConstants.{LONGEST_IMAGE}
 use Rattle.range_defs.specs.Places.{covers}
 use Rattle.bytes_defs.specs.Bytes.{part}
-use Rattle.bytes_defs.specs.declared.order.Order.{Order}
-use Rattle.image_defs.specs.Ask.{Ask, Done, Stop, result_of, visits, check, look, given, ◌>>=◌, ◌>>◌}
+use Rattle.image_defs.specs.Ask.{Ask, Done, result_of, given, ◌>>=◌}
 use Rattle.image_defs.specs.Through.{through}
 use Rattle.image_defs.proofs.Looks.{bind_gives, check_gives, given_gives}
 use Rattle.fault_defs.specs.declared.Refusal.{Refusal}
-use Rattle.fault_defs.specs.declared.Refusal.TheVariants.{NotThis, Damaged, Limit}
+use Rattle.fault_defs.specs.declared.Refusal.TheVariants.{Damaged}
 use Rattle.fault_defs.specs.declared.Sort.TheVariants.{DirSize}
-use Rattle.fault_defs.specs.declared.Bound.TheVariants.{Image}
-use Rattle.ufs_inode_defs.specs.Layout.{layout_1, layout_2, layout_of}
-use Rattle.ufs_inode_defs.specs.Superblock.{superblock_of, block_size, wrong_field, super_place, magic_order, checked_super, super_in, super_or, super_of_1, super_of_2, volume_super, inode_place}
-use Rattle.ufs_inode_defs.specs.Inode.{inode_of, is_directory, size_place, tested_inode, inode_at}
-use Rattle.ufs_inode_defs.specs.Stream.{Pointer, content_stream, block_count, content_len}
+use Rattle.ufs_inode_defs.specs.Layout.{layout_of}
+use Rattle.ufs_inode_defs.specs.Superblock.{block_size, wrong_field, inode_place}
+use Rattle.ufs_inode_defs.specs.Inode.{inode_of, size_place, tested_inode, inode_at}
+use Rattle.ufs_inode_defs.specs.Stream.{Pointer, content_stream, content_len}
 use Rattle.ufs_inode_defs.specs.Blocks.{Laid, runs_of, fragment_place, stream_blocks}
 use Rattle.ufs_inode_defs.specs.declared.superblock.Super.{Super}
 use Rattle.ufs_inode_defs.specs.declared.inode.Inode.{Inode}
 use Rattle.ufs_inode_defs.proofs.SoundSuper.{is_sound, has_pointers}
-use Rattle.ufs_volume_defs.specs.Directory.{Entry, entries_of}
+use Rattle.ufs_volume_defs.specs.Directory.{entries_of}
 use Rattle.ufs_volume_defs.specs.Names.{Named, Walk, with_runs, names_directory, deepest, Block, entry_name, leading, block_names, directory_blocks, directory_names, directories_behind, names_below, root_inode, root_name, names_from, volume_names}
 use Rattle.ufs_volume_defs.specs.Files.{Section, sections_of, Parted, with_part, section_part, inode_parts, Filed, with_file, number_file, numbers_of, named_files}
-use Rattle.ufs_volume_defs.specs.Volume.{FoundVolume, files_below, volume_at}
 use Rattle.ufs_damage_defs.specs.StreamDamage.{IsUsed}
-use Rattle.ufs_damage_defs.specs.Damage.{order_of_1, order_of_2, HasMagic, First, Second, stored_super, HasSuper, HasBlock, IsGoodDirectory, IsReached, HasSoundInode}
-use Rattle.ufs_damage_defs.proofs.Walks.{same_value, Walks, through_walks}
-use Rattle.ufs_damage_defs.proofs.Seen.{IsWithin, within_first, within_next, within_check, within_given, within_behind, within_look, IsStepOf, through_steps}
+use Rattle.ufs_damage_defs.specs.Damage.{HasBlock}
+use Rattle.ufs_damage_defs.proofs.Walks.{same_value}
+use Rattle.ufs_damage_defs.proofs.Seen.{IsWithin, within_first, within_next, within_check, within_given, within_look, IsStepOf, through_steps}
 use Rattle.ufs_damage_defs.proofs.StreamStops.{pointers_seen}
 use Rattle.ufs_damage_defs.proofs.DirectoryLaws.{blocks_are, block_among}
 use Rattle.ufs_damage_defs.proofs.NameFacts.{in_none, in_head, in_filter, dropped}
 use Rattle.ufs_damage_defs.proofs.NameSteps.{entry_gives}
 use Rattle.ufs_damage_defs.proofs.Contents.{pieces_place}
-use Rattle.ufs_damage_defs.proofs.NameDamage.{root_gives}
-use Rattle.ufs_damage_defs.proofs.NameClosure.{HasMore, HasAllNames}
-use Rattle.ufs_damage_defs.proofs.Accepted.{found_as, number_is, walked_as}
-use Rattle.ufs_guard_defs.specs.Guard.{IsProbe, Ntfs, NtfsMark, Hfs, Ufs1, IsIn, IsGuarded, Probed, InSuper, InInode, InDirectory, InPointers}
+use Rattle.ufs_damage_defs.proofs.NameClosure.{HasMore, more_same, more_more}
+use Rattle.ufs_guard_defs.specs.Guard.{IsIn}
 
 -- ---- the names of a walk grow
 
 module _ (image : List ℕ) (sup : Super) where
-  more_same : (walk : Walk) → HasMore walk walk
-  more_same walk = ([], sym (append-nil walk.names))
-
-  more_more : (first second third : Walk) → HasMore first second → HasMore second third → HasMore first third
-  more_more first second third one two = (one.0 ++ two.0, two.1 ∙ ap (λ names. names ++ two.0) one.1 ∙ append_assoc first.names one.0 two.0)
-
   abbrev Grows : {X : Type 0} → (Walk → X → Ask Refusal Walk) → Type 0
   Grows {X} step = (x : X) (walk after : Walk) → result_of image (step walk x) ≡ Ok after → HasMore walk after
 
@@ -116,7 +103,7 @@ module _ (image : List ℕ) (sup : Super) where
         below_walked depths step.0 after (directories_behind (length walk.names) step.0.names) (subst A (sym grown.1) (All-append K walk.names more old new)) step.2
         (within_next image ranges (through (directory_names sup) walk dirs) next step.0 step.1 within)
 
-    names_walked : (walk : Walk) → result_of image (volume_names sup) ≡ Ok walk → IsWithin image ranges (volume_names sup) → All (λ name. names_directory name ≡ true → WasWalked name) walk.names
+    pub names_walked : (walk : Walk) → result_of image (volume_names sup) ≡ Ok walk → IsWithin image ranges (volume_names sup) → All (λ name. names_directory name ≡ true → WasWalked name) walk.names
     unfolding volume_names
     names_walked walk gives within =
         let root = bind_gives image (root_inode sup) (names_from sup) walk gives in
@@ -126,7 +113,7 @@ module _ (image : List ℕ) (sup : Super) where
         (within_next image ranges (root_inode sup) (names_from sup) root.0 root.1 within)
 
   -- a block of a directory that was walked is looked at
-  block_seen : (ranges : List Range) (sound : wrong_field sup ≡ None) (directory : Named) → result_of image (inode_at sup directory.number) ≡ Ok directory.inode → WasWalked ranges directory
+  pub block_seen : (ranges : List Range) (sound : wrong_field sup ≡ None) (directory : Named) → result_of image (inode_at sup directory.number) ≡ Ok directory.inode → WasWalked ranges directory
       → (index at : ℕ) → HasBlock image sup directory.inode index at → (byte : ℕ) → IsIn at (content_len sup directory.inode.size index) byte → covers ranges byte ≡ true
   unfolding directory_names block_names
   block_seen ranges sound directory read walked index at there byte inside =
@@ -154,14 +141,14 @@ module _ (image : List ℕ) (sup : Super) where
 -- ---- files
 
 module _ (image : List ℕ) (sup : Super) (volume : ℕ) (ranges : List Range) (names : List Named) (filed : Filed) (gives : result_of image (named_files sup volume names) ≡ Ok filed)
-  (within : IsWithin image ranges (named_files sup volume names)) where
+    (within : IsWithin image ranges (named_files sup volume names)) where
   number_step : (number : ℕ) → Contains (numbers_of names) number → IsStepOf image ranges (number_file sup volume names) number
   unfolding named_files
   number_step number has =
       All-contains (IsStepOf image ranges (number_file sup volume names)) (numbers_of names) number
       (through_steps image ranges (number_file sup volume names) (numbers_of names) (record { files = []; runs = 0 }) filed gives within) has
 
-  inode_seen : (number : ℕ) → Contains (numbers_of names) number → (byte : ℕ) → IsIn (inode_place sup number) ((layout_of sup.version).inode_len) byte → covers ranges byte ≡ true
+  pub inode_seen : (number : ℕ) → Contains (numbers_of names) number → (byte : ℕ) → IsIn (inode_place sup number) ((layout_of sup.version).inode_len) byte → covers ranges byte ≡ true
   unfolding number_file inode_at
   inode_seen number has byte inside =
       let step = number_step number has in
@@ -170,7 +157,7 @@ module _ (image : List ℕ) (sup : Super) (volume : ℕ) (ranges : List Range) (
       within_look image ranges (inode_place sup number) ((layout_of sup.version).inode_len) (λ bytes. tested_inode sup (inode_of sup (inode_place sup number) bytes))
       (within_first image ranges (inode_at sup number) rest read.0 read.1 step.within) byte inside.0 inside.1
 
-  row_seen : (number level first fragment : ℕ) (inode : Inode) (section : Section) (pointer : Pointer) → wrong_field sup ≡ None → Contains (numbers_of names) number → result_of image (inode_at sup number) ≡ Ok inode
+  pub row_seen : (number level first fragment : ℕ) (inode : Inode) (section : Section) (pointer : Pointer) → wrong_field sup ≡ None → Contains (numbers_of names) number → result_of image (inode_at sup number) ≡ Ok inode
       → Contains (sections_of sup inode) section → IsUsed image sup section.stream (suc level) first pointer → pointer.value ≡ pos (suc fragment)
       → (byte : ℕ) → IsIn (fragment_place sup (suc fragment)) (block_size sup) byte → covers ranges byte ≡ true
   unfolding number_file inode_parts section_part

@@ -1,14 +1,13 @@
 -- A walk over the directories looks at inodes that are reached, at the content of directories, and at blocks of pointers.
-use Rattle.std.specs.Prelude.{◌≡◌, ◌⊎◌, ℕ, zero, suc, ◌+◌, ◌%◌, ◌==◌, ◌&&◌, pos, Bool, not, nat_le, None, Result, Ok, Err, List, [], ◌∷◌, length, refl}
-use Rattle.std.specs.List.{All, Contains}
-use Rattle.std.proofs.Common.{ap, sym, ◌∙◌, subst, arith}
+use Rattle.std.specs.Prelude.{◌≡◌, ℕ, zero, suc, ◌+◌, ◌%◌, ◌==◌, ◌&&◌, pos, Bool, not, nat_le, None, Ok, List, [], ◌∷◌, length, refl}
+use Rattle.std.specs.List.{Contains}
+use Rattle.std.proofs.Common.{sym, ◌∙◌, subst}
 use Rattle.std.proofs.lemmas.Bool.Decides.{Decides-eqb}
 use Rattle.range_defs.specs.declared.Range.{Range}
-use Rattle.bytes_defs.specs.Bytes.{part}
-use Rattle.image_defs.specs.Ask.{Ask, Done, Stop, result_of, visits, check, look, given, ◌>>=◌, ◌>>◌}
+use Rattle.image_defs.specs.Ask.{Ask, Done, Stop, result_of, check, given, ◌>>=◌}
 use Rattle.image_defs.specs.Through.{through}
 use Rattle.image_defs.specs.Looks.{LooksAt}
-use Rattle.image_defs.proofs.Looks.{looks_nowhere, looks_done, looks_bind, looks_check, looks_look, looks_given, given_gives}
+use Rattle.image_defs.proofs.Looks.{looks_nowhere, looks_done, looks_bind, looks_check, looks_look, looks_given}
 use Rattle.image_defs.proofs.Runs.{visits_check, result_given}
 use Rattle.fault_defs.specs.declared.Refusal.{Refusal}
 use Rattle.fault_defs.specs.declared.Refusal.TheVariants.{Damaged, Unsupported, Limit}
@@ -18,22 +17,20 @@ use Rattle.fault_defs.specs.declared.Bound.TheVariants.{Names, PathBytes, Path, 
 use Rattle.ufs_inode_defs.specs.Layout.{layout_of}
 use Rattle.ufs_inode_defs.specs.Superblock.{block_size, wrong_field, super_place, inode_place, has_inode}
 use Rattle.ufs_inode_defs.specs.Inode.{stored_inode, inode_of, is_directory, is_snapshot, is_too_long, is_ext_too_long, size_place, ext_size_place, flags_place, sound_inode, tested_inode, inode_at, inode_named}
-use Rattle.ufs_inode_defs.specs.Stream.{Pointer, content_stream, block_count, content_len}
+use Rattle.ufs_inode_defs.specs.Stream.{Pointer, content_stream, content_len}
 use Rattle.ufs_inode_defs.specs.Blocks.{Laid, runs_of, fragment_place, stream_blocks}
 use Rattle.ufs_inode_defs.specs.declared.superblock.Super.{Super}
 use Rattle.ufs_inode_defs.specs.declared.inode.Inode.{Inode}
-use Rattle.ufs_inode_defs.proofs.BlockLaw.{HasPointers}
 use Rattle.ufs_inode_defs.proofs.SoundSuper.{is_sound, has_pointers}
 use Rattle.ufs_volume_defs.specs.Directory.{Entry, entries_of, leading_entries}
 use Rattle.ufs_volume_defs.specs.Names.{Named, Walk, with_name, with_runs, path_bytes, is_known, longest_path, most_names, most_path_bytes, deepest, counted_name, Block, name_by, found_name, entry_name, leading, block_names, directory_blocks, directory_names, directories_behind, names_below, root_inode, root_name, names_from, volume_names}
 use Rattle.ufs_volume_defs.specs.Files.{Section, sections_of}
 use Rattle.ufs_damage_defs.specs.StreamDamage.{IsUsed}
 use Rattle.ufs_damage_defs.specs.Damage.{HasBlock, block_bytes, IsGoodDirectory, IsReached, Root, HasSoundInode}
-use Rattle.ufs_damage_defs.proofs.Walks.{same_value}
 use Rattle.ufs_damage_defs.proofs.NameFacts.{in_head}
 use Rattle.ufs_damage_defs.proofs.NameSteps.{IsFound, IsEntry, reached}
 use Rattle.ufs_damage_defs.proofs.Contents.{pieces_place, good_of, content_part, content_section}
-use Rattle.ufs_damage_defs.proofs.NameDamage.{InBlock, entry_is, entry_goes_on, AtBlocks, block_there, in_block, leading_gives, block_goes_on, AtDirectories, sound_inode_of, of, is_one, at_blocks, directory_goes_on, IsAtDepth, at_directories, depth_goes_on, at_root, HasRoot, root_gives}
+use Rattle.ufs_damage_defs.proofs.NameDamage.{InBlock, entry_is, entry_goes_on, AtBlocks, block_there, in_block, leading_gives, block_goes_on, AtDirectories, sound_inode_of, of, is_one, at_blocks, directory_goes_on, IsAtDepth, at_directories, depth_goes_on, at_root, root_gives}
 use Rattle.ufs_guard_defs.proofs.StreamLooks.{stream_looks}
 
 -- a walk over items looks where its steps do

@@ -1,10 +1,10 @@
 -- A walk over the pointers of a stream looks at blocks of pointers to which pointers that are used lead, and nowhere else.
-use Rattle.std.specs.Prelude.{◌≡◌, ◌⊎◌, ℕ, zero, suc, ◌+◌, ◌*◌, ◌<◌, ◌≤◌, ℤ, pos, negsuc, Bool, true, false, nat_le, if◌then◌else◌, Result, Ok, Err, List, [], ◌∷◌, drop, length, refl}
-use Rattle.std.proofs.Common.{ap, sym, ◌∙◌, subst, arith, inl}
+use Rattle.std.specs.Prelude.{◌≡◌, ℕ, zero, suc, ◌+◌, ◌*◌, ℤ, pos, negsuc, Bool, true, false, nat_le, if◌then◌else◌, List, [], ◌∷◌, drop, length, refl}
+use Rattle.std.proofs.Common.{sym, subst, arith, inl}
 use Rattle.range_defs.specs.declared.Range.{Range}
 use Rattle.bytes_defs.specs.Bytes.{part}
 use Rattle.bytes_defs.specs.Numbers.{signed_at}
-use Rattle.image_defs.specs.Ask.{Ask, Done, Stop, result_of, check, look, ◌>>=◌, ◌>>◌}
+use Rattle.image_defs.specs.Ask.{Ask, Done, Stop, look, ◌>>=◌}
 use Rattle.image_defs.specs.Through.{through}
 use Rattle.image_defs.specs.Looks.{LooksAt}
 use Rattle.image_defs.proofs.Looks.{looks_nowhere, looks_done, looks_bind, looks_check, looks_look}
@@ -17,7 +17,6 @@ use Rattle.ufs_inode_defs.specs.Numbers.{signed_row}
 use Rattle.ufs_inode_defs.specs.Superblock.{block_size}
 use Rattle.ufs_inode_defs.specs.Stream.{Pointer, Stream, pointers_from, span, block_count, allocated_len}
 use Rattle.ufs_inode_defs.specs.Blocks.{Laid, none_laid, runs_of, most_runs, with_hole, with_block, with_visit, counted_runs, fragment_place, lies_within, led, mapped_blocks, rising_blocks, stream_blocks}
-use Rattle.ufs_inode_defs.specs.BlockPlace.{pointer_at}
 use Rattle.ufs_inode_defs.specs.declared.superblock.Super.{Super}
 use Rattle.ufs_inode_defs.proofs.BlockLaw.{HasPointers, IsRow, rows_of, not_past, counted_gives}
 use Rattle.ufs_damage_defs.specs.StreamDamage.{StandsAt, first_mapped, IsUsed, Direct, Rising, Below}

@@ -1,34 +1,33 @@
 -- What one looks at for the files of a volume is in its guard.
-use Rattle.std.specs.Prelude.{◌≡◌, ◌⊎◌, ℕ, suc, ◌+◌, ◌-◌, ◌<◌, ◌≤◌, min, nat_le, pos, Option, Some, None, Result, Ok, Err, List, [], ◌∷◌, length, refl}
+use Rattle.std.specs.Prelude.{◌≡◌, ℕ, ◌+◌, ◌-◌, ◌≤◌, min, nat_le, Option, None, List, [], refl}
 use Rattle.std.specs.List.{All, Contains}
-use Rattle.std.proofs.Common.{ap, sym, ◌∙◌, subst, arith, ⊎_elim}
+use Rattle.std.proofs.Common.{sym, ◌∙◌, subst, arith}
 use Rattle.std.proofs.lemmas.List.Elements.{All-head, All-tail, All-contains_itself}
 use Rattle.range_defs.specs.declared.Range.{Range}
 use Rattle.range_defs.specs.declared.TheConstants.{LONGEST_IMAGE}
-use Rattle.bytes_defs.specs.Bytes.{part}
 use Rattle.bytes_defs.specs.declared.order.Order.{Order}
-use Rattle.image_defs.specs.Ask.{Ask, Done, Stop, result_of, check, look, given, ◌>>=◌, ◌>>◌}
+use Rattle.image_defs.specs.Ask.{Ask, Done, Stop, check, given, ◌>>=◌, ◌>>◌}
 use Rattle.image_defs.specs.Looks.{LooksAt}
 use Rattle.image_defs.specs.ViaLaws.{LiesIn}
-use Rattle.image_defs.proofs.Looks.{looks_nowhere, looks_done, looks_bind, looks_check, looks_look, looks_given}
+use Rattle.image_defs.proofs.Looks.{looks_done, looks_bind, looks_check, looks_look, looks_given}
 use Rattle.fault_defs.specs.declared.Refusal.{Refusal}
 use Rattle.fault_defs.specs.declared.Refusal.TheVariants.{NotThis, Limit}
 use Rattle.fault_defs.specs.declared.Bound.TheVariants.{Image}
 use Rattle.ufs_inode_defs.specs.Layout.{layout_1, layout_2, layout_of}
 use Rattle.ufs_inode_defs.specs.Superblock.{superblock_of, wrong_field, super_place, magic_order, checked_super, super_in, super_or, super_of_1, super_of_2, volume_super}
 use Rattle.ufs_inode_defs.specs.Inode.{inode_at}
-use Rattle.ufs_inode_defs.specs.Blocks.{Laid, stream_blocks}
+use Rattle.ufs_inode_defs.specs.Blocks.{stream_blocks}
 use Rattle.ufs_inode_defs.specs.declared.superblock.Super.{Super}
 use Rattle.ufs_inode_defs.specs.declared.inode.Inode.{Inode}
 use Rattle.ufs_inode_defs.proofs.SoundSuper.{is_sound, has_pointers}
 use Rattle.ufs_volume_defs.specs.Names.{Walk, volume_names}
-use Rattle.ufs_volume_defs.specs.Files.{Section, sections_of, Parted, with_part, section_part, inode_parts, Filed, with_file, number_file, numbers_of, named_files}
+use Rattle.ufs_volume_defs.specs.Files.{sections_of, with_part, section_part, inode_parts, Filed, with_file, number_file, numbers_of, named_files}
 use Rattle.ufs_volume_defs.specs.Volume.{FoundVolume, files_below, volume_at}
-use Rattle.ufs_damage_defs.specs.Damage.{order_of_1, order_of_2, volume_bytes, HasMagic, First, Second, stored_super, HasSuper, HasSoundInode}
+use Rattle.ufs_damage_defs.specs.Damage.{order_of_1, HasMagic, First, Second, stored_super, HasSuper, HasSoundInode}
 use Rattle.ufs_damage_defs.proofs.Walks.{same_value}
 use Rattle.ufs_damage_defs.proofs.NameDamage.{HasNames, names_give}
 use Rattle.ufs_damage_defs.proofs.FileDamage.{file_number}
-use Rattle.ufs_guard_defs.specs.Guard.{IsProbe, Ntfs, NtfsMark, Hfs, Ufs1, IsIn, IsGuarded, Probed, InSuper, InInode, InDirectory, InPointers}
+use Rattle.ufs_guard_defs.specs.Guard.{IsProbe, Ntfs, NtfsMark, Hfs, Ufs1, IsGuarded, Probed, InSuper, InInode, InDirectory, InPointers}
 use Rattle.ufs_guard_defs.proofs.StreamLooks.{stream_looks}
 use Rattle.ufs_guard_defs.proofs.NameLooks.{MayLook, looks_through, inode_looks, names_look}
 

@@ -1,6 +1,6 @@
 -- The guard of a UFS volume in words: the bytes by which kinds of volumes are known, the superblock, each inode that is reached, the
 -- content of each directory, and each block of pointers to which a pointer that is used leads.
-use Rattle.std.specs.Prelude.{◌≡◌, ◌↔◌, ℕ, suc, ◌+◌, ◌-◌, ◌<◌, ◌≤◌, pos, min, true, IsTrue, Ok, List, length}
+use Rattle.std.specs.Prelude.{◌≡◌, ◌↔◌, ℕ, suc, ◌+◌, ◌-◌, ◌<◌, ◌≤◌, pos, min, IsTrue, Ok, List, length}
 use Rattle.std.specs.List.{Contains}
 use Rattle.range_defs.specs.declared.Range.{Range}
 use Rattle.range_defs.specs.Places.{covers}

@@ -9,3 +9,5 @@
 //!
 //! The promised law of `laws`: the guard of a volume that is read has these bytes, and no others.
 #![tactic(auto)]
+
+pub mod laws;
