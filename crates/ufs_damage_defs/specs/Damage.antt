@@ -184,10 +184,10 @@ pub data CountsMore (image : List ℕ) (sup : Super) (number : ℕ) : Type 0 whe
 -- what a volume of a number with a sound superblock has more of than its limit: bytes of a path; names, beside the root's, and
 -- bytes of all of them; directories above one another; runs
 pub data IsOverIn (image : List ℕ) (sup : Super) (number : ℕ) : Bound → ℕ → Type 0 where
-  LongPath : (inode place depth : ℕ) (path : List ℕ) → IsReached image sup inode place depth path → longest_path < length path → IsOverIn image sup number Path longest_path
+  LongPath : (inode_number place depth : ℕ) (path : List ℕ) → IsReached image sup inode_number place depth path → longest_path < length path → IsOverIn image sup number Path longest_path
   ManyNames : (names : List Named) → AreNames image sup names → most_names < suc (length names) → IsOverIn image sup number Names most_names
   LongNames : (names : List Named) → AreNames image sup names → most_path_bytes < suc (path_bytes names) → IsOverIn image sup number PathBytes most_path_bytes
-  Deep : (inode place depth : ℕ) (path : List ℕ) → IsReached image sup inode place depth path → is_directory (stored_inode image sup inode) ≡ true → deepest < depth
+  Deep : (inode_number place depth : ℕ) (path : List ℕ) → IsReached image sup inode_number place depth path → is_directory (stored_inode image sup inode_number) ≡ true → deepest < depth
       → IsOverIn image sup number Depth deepest
   ManyRuns : CountsMore image sup number → IsOverIn image sup number Runs most_runs
 
