@@ -18,7 +18,7 @@ use Rattle.ufs_inode_defs.specs.Blocks.{Laid, stream_blocks}
 use Rattle.ufs_inode_defs.specs.BlockPlace.{byte_place}
 use Rattle.ufs_inode_defs.specs.declared.superblock.Super.{Super}
 use Rattle.ufs_inode_defs.specs.declared.inode.Inode.{Inode}
-use Rattle.ufs_inode_defs.proofs.BlockLaw.{block_begins}
+use Rattle.ufs_inode_defs.proofs.BlockSteps.{block_begins}
 use Rattle.ufs_inode_defs.proofs.SoundSuper.{is_sound, has_pointers}
 use Rattle.ufs_inode_defs.proofs.StreamLaws.{stream_law}
 use Rattle.ufs_volume_defs.specs.Directory.{Entry}
@@ -43,7 +43,7 @@ module _ (image : List ℕ) (sup : Super) (sound : wrong_field sup ≡ None) whe
   pub pieces_place : (number : ℕ) (inode : Inode) (runs : ℕ) (laid : Laid) → result_of image (inode_at sup number) ≡ Ok inode → result_of image (stream_blocks sup (content_stream sup inode) runs) ≡ Ok laid
       → (index : ℕ) → index < block_count sup inode.size → place_through laid.pieces (index * block_size sup) ≡ byte_place image sup (content_stream sup inode) (index * block_size sup)
   pieces_place number inode runs laid read gives index below =
-      let are = (stream_law image sup number inode sound read).content runs laid gives in
+      let are = ((stream_law image sup number inode sound read).content runs laid gives).0 in
       let some : 0 < block_size sup = (has_pointers sup (is_sound sup sound)).some_bytes in
       (through_law image (byte_place image sup (content_stream sup inode)) inode.size laid.pieces are).places (index * block_size sup) (block_begins inode.size (block_size sup) index some below)
 

@@ -12,7 +12,7 @@ use Rattle.ufs_inode_defs.specs.Inode.{inode_at}
 use Rattle.ufs_inode_defs.specs.Blocks.{stream_blocks}
 use Rattle.ufs_inode_defs.specs.declared.superblock.Super.{Super}
 use Rattle.ufs_inode_defs.specs.declared.inode.Inode.{Inode}
-use Rattle.ufs_inode_defs.proofs.BlockLaw.{HasPointers}
+use Rattle.ufs_inode_defs.proofs.BlockSteps.{HasPointers}
 use Rattle.ufs_inode_defs.proofs.SoundSuper.{is_sound, has_pointers}
 use Rattle.ufs_volume_defs.specs.Names.{Named, Walk}
 use Rattle.ufs_volume_defs.specs.Files.{Section, sections_of, Parted, with_part, section_part, inode_parts, Filed, with_file, number_file, numbers_of, named_files}

@@ -20,7 +20,7 @@ use Rattle.ufs_inode_defs.specs.Blocks.{Laid, runs_of, most_runs, stream_blocks}
 use Rattle.ufs_inode_defs.specs.BlockPlace.{byte_place}
 use Rattle.ufs_inode_defs.specs.declared.superblock.Super.{Super}
 use Rattle.ufs_inode_defs.specs.declared.inode.Inode.{Inode}
-use Rattle.ufs_inode_defs.proofs.BlockLaw.{HasPointers}
+use Rattle.ufs_inode_defs.proofs.BlockSteps.{HasPointers}
 use Rattle.ufs_inode_defs.proofs.SoundSuper.{is_sound, has_pointers}
 use Rattle.ufs_volume_defs.specs.Directory.{Entry, entries_of, leading_entries}
 use Rattle.ufs_volume_defs.specs.Names.{Named, Walk, with_runs, names_directory, deepest, Block, name_by, entry_name, leading, block_names, directory_blocks, directory_names, directories_behind, names_below, root_inode, root_name, names_from, volume_names}

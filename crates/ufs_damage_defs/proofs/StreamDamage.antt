@@ -17,7 +17,8 @@ use Rattle.ufs_inode_defs.specs.Superblock.{block_size}
 use Rattle.ufs_inode_defs.specs.Stream.{Pointer, Stream, pointers_from, span, block_count, allocated_len}
 use Rattle.ufs_inode_defs.specs.Blocks.{Laid, runs_of, most_runs, with_hole, with_block, with_visit, counted_runs, fragment_place, lies_within, led, mapped_blocks}
 use Rattle.ufs_inode_defs.specs.declared.superblock.Super.{Super}
-use Rattle.ufs_inode_defs.proofs.BlockLaw.{HasPointers, IsRow, rows_of, past_or, not_past, counted_gives}
+use Rattle.ufs_inode_defs.proofs.BlockSteps.{HasPointers, counted_gives}
+use Rattle.ufs_inode_defs.proofs.BlockLaw.{IsRow, rows_of, past_or, not_past}
 use Rattle.ufs_damage_defs.specs.StreamDamage.{IsUsed, Below, HasBadPointer}
 use Rattle.ufs_damage_defs.proofs.Walks.{same_value, same_error}
 

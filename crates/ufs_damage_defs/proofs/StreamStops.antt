@@ -17,7 +17,8 @@ use Rattle.ufs_inode_defs.specs.Stream.{Pointer, Stream, pointers_from, span, bl
 use Rattle.ufs_inode_defs.specs.Blocks.{Laid, none_laid, with_visit, counted_runs, fragment_place, lies_within, mapped_blocks, rising_blocks, stream_blocks}
 use Rattle.ufs_inode_defs.specs.BlockPlace.{pointer_at}
 use Rattle.ufs_inode_defs.specs.declared.superblock.Super.{Super}
-use Rattle.ufs_inode_defs.proofs.BlockLaw.{HasPointers, IsRow, rows_of, counted_gives}
+use Rattle.ufs_inode_defs.proofs.BlockSteps.{HasPointers, counted_gives}
+use Rattle.ufs_inode_defs.proofs.BlockLaw.{IsRow, rows_of}
 use Rattle.range_defs.specs.declared.Range.{Range}
 use Rattle.range_defs.specs.Places.{covers}
 use Rattle.image_defs.specs.Ask.{visits}

@@ -18,7 +18,8 @@ use Rattle.ufs_inode_defs.specs.Superblock.{block_size}
 use Rattle.ufs_inode_defs.specs.Stream.{Pointer, Stream, pointers_from, span, block_count, allocated_len}
 use Rattle.ufs_inode_defs.specs.Blocks.{Laid, none_laid, runs_of, most_runs, with_hole, with_block, with_visit, counted_runs, fragment_place, lies_within, led, mapped_blocks, rising_blocks, stream_blocks}
 use Rattle.ufs_inode_defs.specs.declared.superblock.Super.{Super}
-use Rattle.ufs_inode_defs.proofs.BlockLaw.{HasPointers, IsRow, rows_of, not_past, counted_gives}
+use Rattle.ufs_inode_defs.proofs.BlockSteps.{HasPointers, counted_gives}
+use Rattle.ufs_inode_defs.proofs.BlockLaw.{IsRow, rows_of, not_past}
 use Rattle.ufs_damage_defs.specs.StreamDamage.{StandsAt, first_mapped, IsUsed, Direct, Rising, Below}
 use Rattle.ufs_damage_defs.proofs.StreamDamage.{HasComeTo, there, moves_on, moves_by, children_move, same_block, IsNext}
 

@@ -1,14 +1,14 @@
 -- The walk over the pointers puts each byte of a stream where it stands.
-use Rattle.std.specs.Prelude.{◌≡◌, ◌⊎◌, ℕ, zero, suc, ◌+◌, ◌-◌, ◌*◌, ◌/◌, ◌%◌, ◌<◌, ◌≤◌, min, ℤ, pos, negsuc, Bool, true, false, nat_le, nat_lt, if◌then◌else◌, Result, Ok, List, [], ◌∷◌, take, drop, length, refl}
-use Rattle.std.specs.Int.{cast_signed, div_ceil}
+use Rattle.std.specs.Prelude.{◌≡◌, ◌⊎◌, ℕ, zero, suc, ◌+◌, ◌-◌, ◌*◌, ◌%◌, ◌<◌, ◌≤◌, min, ℤ, pos, negsuc, Bool, true, false, nat_le, nat_lt, if◌then◌else◌, Ok, List, [], ◌∷◌, take, drop, length, refl}
+use Rattle.std.specs.Int.{cast_signed}
 use Rattle.std.proofs.Common.{ap, sym, ◌∙◌, subst, arith, ⊎_elim, inl, inr}
 use Rattle.std.proofs.Math.Nat.{mul-le-mul_right}
 use Rattle.std.proofs.lemmas.Bool.{leb-true}
 use Rattle.std.proofs.lemmas.Bool.Decides.{nat_tests}
-use Rattle.std.proofs.lemmas.Grind.{div_ceil_times}
-use Rattle.std.proofs.lemmas.Nat.{div-mul-add, mod-mul-add, div_below, le-div}
+use Rattle.std.proofs.lemmas.Nat.{div-mul-add, mod-mul-add}
 use Rattle.std.proofs.lemmas.List.{drop-drop, drop-take}
 use Rattle.std.proofs.lemmas.List.Elements.{All-nil}
+use Rattle.std.proofs.lemmas.Bool.{le-leb}
 use Rattle.bytes_defs.specs.Bytes.{part}
 use Rattle.bytes_defs.specs.Numbers.{number_at, signed_at}
 use Rattle.bytes_defs.proofs.NumberLaws.{number_at_part, signed_at_number}
@@ -16,104 +16,17 @@ use Rattle.image_defs.specs.Ask.{Ask, Done, result_of, look, ◌>>=◌}
 use Rattle.image_defs.specs.Through.{through}
 use Rattle.image_defs.proofs.Looks.{bind_gives, check_gives}
 use Rattle.piece_defs.specs.Places.{IsPlaced, ArePiecesAt}
-use Rattle.piece_defs.proofs.Put.{put_law}
 use Rattle.fault_defs.specs.declared.Refusal.{Refusal}
-use Rattle.fault_defs.specs.declared.Refusal.TheVariants.{Damaged, Limit}
+use Rattle.fault_defs.specs.declared.Refusal.TheVariants.{Damaged}
 use Rattle.fault_defs.specs.declared.Sort.TheVariants.{BlockPointer}
-use Rattle.fault_defs.specs.declared.Bound.TheVariants.{Runs}
 use Rattle.ufs_inode_defs.specs.Layout.{layout_of, pointer_len}
 use Rattle.ufs_inode_defs.specs.Numbers.{signed_row}
 use Rattle.ufs_inode_defs.specs.Superblock.{block_size}
 use Rattle.ufs_inode_defs.specs.Stream.{Pointer, Stream, span, block_count, allocated_len, pointers_from}
-use Rattle.ufs_inode_defs.specs.Blocks.{Laid, runs_of, most_runs, with_hole, with_block, with_visit, counted_runs, fragment_place, lies_within, led, none_laid, mapped_blocks, stream_blocks}
-use Rattle.ufs_inode_defs.specs.BlockPlace.{pointer_at, mapped_pointer, value_of, block_pointer, led_place, byte_place, AreStreamPieces}
+use Rattle.ufs_inode_defs.specs.Blocks.{Laid, with_hole, with_block, with_visit, counted_runs, fragment_place, lies_within, led, none_laid, mapped_blocks, stream_blocks}
+use Rattle.ufs_inode_defs.specs.BlockPlace.{behind_last, slack_of, pointer_at, mapped_pointer, value_of, block_pointer, byte_place, AreStreamPieces}
 use Rattle.ufs_inode_defs.specs.declared.superblock.Super.{Super}
-
--- a block of the content begins in it
-pub block_begins : (size unit block : ℕ) → 0 < unit → block < div_ceil size unit → block * unit < size
-block_begins size unit block some below =
-    let next : suc block * unit ≤ div_ceil size unit * unit = mul-le-mul_right unit below in
-    omega (arith, next, (div_ceil_times size unit some).1)
-
--- behind the blocks of the content there is nothing of it
-pub blocks_hold : (size unit block : ℕ) → 0 < unit → div_ceil size unit ≤ block → size ≤ block * unit
-blocks_hold size unit block some past =
-    let whole : div_ceil size unit * unit ≤ block * unit = mul-le-mul_right unit past in
-    omega (arith, whole, (div_ceil_times size unit some).0)
-
--- the pieces of the blocks that were passed are laid
-abbrev pub IsLaid : List ℕ → Super → Stream → Laid → Type 0
-IsLaid image sup stream laid = ArePiecesAt (byte_place image sup stream) (min (laid.block * block_size sup) stream.size) laid.pieces
-
--- blocks from one on are those that a pointer maps
-abbrev pub AreMapped : ℕ → List ℕ → Super → Stream → ℕ → ℤ → Type 0
-AreMapped level image sup stream first value =
-    (number : ℕ) → number < span sup level → block_pointer image sup stream (first + number) ≡ mapped_pointer level image sup value number
-
--- a walk has come to a block, or to the end
-abbrev pub HasCome : Super → Stream → ℕ → Laid → Type 0
-HasCome sup stream block laid = (laid.block ≡ block) ⊎ (block_count sup stream.size ≤ laid.block)
-
--- a walk has passed the blocks in front of one
-pub record HasPassed (image : List ℕ) (sup : Super) (stream : Stream) (block : ℕ) (laid : Laid) : Type 0 where
-  pub placed : IsLaid image sup stream laid
-  pub come : HasCome sup stream block laid
-
-same_value : (a b : Laid) → (let first : Result Laid Refusal = Ok a in let second : Result Laid Refusal = Ok b in first ≡ second) → a ≡ b
-same_value a b same = cc
-
-pub counted_gives : (image : List ℕ) (laid after : Laid) → result_of image (counted_runs laid) ≡ Ok after → laid ≡ after
-counted_gives image laid after gives = same_value laid after (check_gives image (nat_le (runs_of laid) most_runs) (Limit Runs most_runs) (λ x. Done laid) after gives).1
-
-passed_of : (image : List ℕ) (sup : Super) (stream : Stream) (block : ℕ) (laid after : Laid) → laid ≡ after → HasPassed image sup stream block laid → HasPassed image sup stream block after
-passed_of image sup stream block laid after same passed = let P : Laid → Type 0 = λ l. HasPassed image sup stream block l in subst P same passed
-
--- ---- one step
-
--- a hole of some blocks
-hole_laid : (image : List ℕ) (sup : Super) (stream : Stream) (laid : Laid) (blocks : ℕ) → 0 < block_size sup → 0 < blocks → laid.block < block_count sup stream.size → IsLaid image sup stream laid
-    → ((number : ℕ) → number < blocks → block_pointer image sup stream (laid.block + number) ≡ pos 0) → IsLaid image sup stream (with_hole sup stream.size blocks laid)
-unfolding byte_place
-hole_laid image sup stream laid blocks some more below before holes =
-    let unit : ℕ = block_size sup in
-    let begins : laid.block * unit < stream.size = block_begins stream.size unit laid.block some below in
-    let one : 1 * unit ≤ blocks * unit = mul-le-mul_right unit more in
-    let behind : (laid.block + blocks) * unit ≡ laid.block * unit + blocks * unit = omega arith in
-    let P : ℕ → Type 0 = λ end. ArePiecesAt (byte_place image sup stream) end (with_hole sup stream.size blocks laid).pieces in
-    subst P (omega (arith, begins, behind))
-    (put_law (byte_place image sup stream) (min (laid.block * unit) stream.size) laid.pieces _ before (omega (arith, begins)) (omega (arith, begins, one, some))
-    (record {
-      plain = refl;
-      bytes = λ byte from to.
-          let low : laid.block ≤ byte / unit = le-div laid.block byte unit some from in
-          let high : byte / unit < laid.block + blocks = div_below byte unit (laid.block + blocks) some (omega (arith, to, behind)) in
-          let is : laid.block + (byte / unit - laid.block) ≡ byte / unit = omega (arith, low) in
-          ap (λ value. led_place sup value (byte % unit)) (ap (λ block. block_pointer image sup stream block) (sym is) ∙ holes (byte / unit - laid.block) (omega (arith, low, high)));
-    }))
-
--- a block at a fragment
-block_laid : (image : List ℕ) (sup : Super) (stream : Stream) (laid : Laid) (fragment : ℕ) → 0 < block_size sup → laid.block < block_count sup stream.size → IsLaid image sup stream laid
-    → block_pointer image sup stream laid.block ≡ pos (suc fragment) → IsLaid image sup stream (with_block sup stream.size (fragment_place sup (suc fragment)) laid)
-unfolding byte_place
-block_laid image sup stream laid fragment some below before is =
-    let unit : ℕ = block_size sup in
-    let begins : laid.block * unit < stream.size = block_begins stream.size unit laid.block some below in
-    let behind : (laid.block + 1) * unit ≡ laid.block * unit + unit = omega arith in
-    let P : ℕ → Type 0 = λ end. ArePiecesAt (byte_place image sup stream) end (with_block sup stream.size (fragment_place sup (suc fragment)) laid).pieces in
-    subst P (omega (arith, begins, behind))
-    (put_law (byte_place image sup stream) (min (laid.block * unit) stream.size) laid.pieces _ before (omega (arith, begins)) (omega (arith, begins, some))
-    (record {
-      plain = tt;
-      bytes = λ byte from to.
-          let rest : ℕ = byte - laid.block * unit in
-          let whole : laid.block * unit + rest ≡ byte = omega (arith, from) in
-          let short : rest < unit = omega (arith, to) in
-          let number : byte / unit ≡ laid.block = ap (λ n. n / unit) (sym whole) ∙ div-mul-add laid.block unit rest short in
-          let offset : byte % unit ≡ rest = ap (λ n. n % unit) (sym whole) ∙ mod-mul-add laid.block unit rest short in
-          ap (λ block. led_place sup (block_pointer image sup stream block) (byte % unit)) number
-          ∙ ap (λ value. led_place sup value (byte % unit)) is
-          ∙ ap (λ n. led_place sup (pos (suc fragment)) n) offset;
-    }))
+use Rattle.ufs_inode_defs.proofs.BlockSteps.{blocks_hold, IsLaid, AreMapped, HasCome, same_value, counted_gives, passed_of, hole_laid, block_laid, HasPointers, HasPassed}
 
 -- a walk stands where it was behind the end, and else it goes on
 pub past_or : (image : List ℕ) (past : Bool) (laid after : Laid) (more : Ask Refusal Laid) → result_of image (if past then Done laid else more) ≡ Ok after
@@ -129,39 +42,39 @@ Passes level image sup stream =
     (laid after : Laid) (at : ℕ) (value : ℤ) → IsLaid image sup stream laid → (laid.block < block_count sup stream.size → AreMapped level image sup stream laid.block value)
     → result_of image (mapped_blocks level sup stream.size laid (record { at = at; value = value })) ≡ Ok after → HasPassed image sup stream (laid.block + span sup level) after
 
-block_passes : (image : List ℕ) (sup : Super) (stream : Stream) (laid after : Laid) (at : ℕ) (value : ℤ) → 0 < block_size sup → laid.block < block_count sup stream.size → IsLaid image sup stream laid
+block_passes : (image : List ℕ) (sup : Super) (stream : Stream) (laid after : Laid) (at : ℕ) (value : ℤ) → HasPointers sup → laid.block < block_count sup stream.size → IsLaid image sup stream laid
     → block_pointer image sup stream (laid.block + 0) ≡ value
     → result_of image (led sup (record { at = at; value = value }) (allocated_len sup stream.size laid.block) (counted_runs (with_hole sup stream.size 1 laid)) (λ place. counted_runs (with_block sup stream.size place laid))) ≡ Ok after
     → HasPassed image sup stream (laid.block + 1) after
-block_passes image sup stream laid after at (pos zero) some below before is gives =
+block_passes image sup stream laid after at (pos zero) has below before is gives =
     passed_of image sup stream (laid.block + 1) (with_hole sup stream.size 1 laid) after (counted_gives image (with_hole sup stream.size 1 laid) after gives)
     (record {
       placed =
-          hole_laid image sup stream laid 1 some (omega arith) below before
+          hole_laid image sup stream laid 1 has.some_bytes (omega arith) below before
           (λ number first. let zero_th : laid.block + number ≡ laid.block + 0 = omega (arith, first) in ap (λ block. block_pointer image sup stream block) zero_th ∙ is);
       come = inl refl;
     })
-block_passes image sup stream laid after at (pos (suc fragment)) some below before is gives =
+block_passes image sup stream laid after at (pos (suc fragment)) has below before is gives =
     let there = check_gives image (lies_within sup (suc fragment) (allocated_len sup stream.size laid.block)) (Damaged BlockPointer at) (λ x. counted_runs (with_block sup stream.size (fragment_place sup (suc fragment)) laid)) after gives in
     let here : laid.block ≡ laid.block + 0 = omega arith in
     passed_of image sup stream (laid.block + 1) (with_block sup stream.size (fragment_place sup (suc fragment)) laid) after (counted_gives image (with_block sup stream.size (fragment_place sup (suc fragment)) laid) after there.1)
     (record {
-      placed = block_laid image sup stream laid fragment some below before (ap (λ block. block_pointer image sup stream block) here ∙ is);
+      placed = block_laid image sup stream laid fragment has below before (ap (λ block. block_pointer image sup stream block) here ∙ is);
       come = inl refl;
     })
-block_passes image sup stream laid after at (negsuc n) some below before is gives = absurd cc
+block_passes image sup stream laid after at (negsuc n) has below before is gives = absurd cc
 
 pub not_past : (count block : ℕ) → nat_le count block ≡ false → block < count
 not_past count block is = grind (arith, nat_tests)
 
-passes_0 : (image : List ℕ) (sup : Super) (stream : Stream) → 0 < block_size sup → Passes 0 image sup stream
+passes_0 : (image : List ℕ) (sup : Super) (stream : Stream) → HasPointers sup → Passes 0 image sup stream
 unfolding mapped_blocks
-passes_0 image sup stream some = λ laid after at value before maps gives.
+passes_0 image sup stream has = λ laid after at value before maps gives.
     ⊎_elim
     (λ past. passed_of image sup stream (laid.block + 1) laid after past.1 (record { placed = before; come = inr (leb-true (block_count sup stream.size) laid.block past.0) }))
     (λ inside.
     let below : laid.block < block_count sup stream.size = not_past (block_count sup stream.size) laid.block inside.0 in
-    block_passes image sup stream laid after at value some below before (maps below 0 (omega arith)) inside.1)
+    block_passes image sup stream laid after at value has below before (maps below 0 (omega arith)) inside.1)
     (past_or image (nat_le (block_count sup stream.size) laid.block) laid after _ gives)
 
 -- ---- a block of pointers
@@ -219,12 +132,6 @@ children_pass level image sup stream first fragment passes maps (suc more) numbe
           passed.come;
     })
     step.2
-
--- what a superblock in which nothing is wrong says of blocks of pointers
-pub record HasPointers (sup : Super) : Type 0 where
-  pub some_bytes : 0 < block_size sup
-  pub some_pointers : 0 < sup.nindir
-  pub whole : sup.nindir * pointer_len sup.version ≤ block_size sup
 
 pub some_span : (sup : Super) → 0 < sup.nindir → (level : ℕ) → 0 < span sup level
 some_span sup some zero = omega arith
@@ -294,7 +201,7 @@ rows_of image sup has place =
 
 -- so what a pointer of any level maps is passed
 passes : (level : ℕ) (image : List ℕ) (sup : Super) (stream : Stream) → HasPointers sup → Passes level image sup stream
-passes zero image sup stream has = passes_0 image sup stream has.some_bytes
+passes zero image sup stream has = passes_0 image sup stream has
 passes (suc level) image sup stream has = passes_next level image sup stream has (rows_of image sup has) (passes level image sup stream has)
 
 -- ---- a stream
@@ -366,25 +273,38 @@ direct_pass image sup stream has (pointer ∷ pointers) number laid after few ar
     (record { placed = passed.placed; come = come_on sup stream number 1 laid step.0 before.come passed.come })
     step.2)
 
--- a walk that passed all blocks has the pieces of the stream
-pub all_passed : (image : List ℕ) (sup : Super) (stream : Stream) (block : ℕ) (laid : Laid) → 0 < block_size sup → block_count sup stream.size ≤ block → HasPassed image sup stream block laid → AreStreamPieces image sup stream laid.pieces
+-- nothing is laid yet
+pub none_is_laid : (image : List ℕ) (sup : Super) (stream : Stream) (runs : ℕ) → IsLaid image sup stream (none_laid runs)
+unfolding slack_of
+none_is_laid image sup stream runs =
+    let none : min (0 * block_size sup) stream.size ≡ 0 = omega arith in
+    let N : ℕ → Type 0 = λ end. ArePiecesAt (byte_place image sup stream) end [] in
+    (subst N (sym none) (record { covered = refl; placed = All-nil (IsPlaced (byte_place image sup stream)) }), either (nat_le (block_count sup stream.size) 0) refl)
+  where
+    either : (past : Bool) → nat_le (block_count sup stream.size) 0 ≡ past → [] ≡ (if past then behind_last image sup stream (block_count sup stream.size) else [])
+    either true is = let none : block_count sup stream.size ≡ 0 = let few = leb-true (block_count sup stream.size) 0 is in omega (arith, few) in sym (ap (λ count. behind_last image sup stream count) none)
+    either false is = refl
+
+-- a walk that passed all blocks has the pieces of the stream, and its slack
+pub all_passed : (image : List ℕ) (sup : Super) (stream : Stream) (block : ℕ) (laid : Laid) → 0 < block_size sup → block_count sup stream.size ≤ block → HasPassed image sup stream block laid
+    → AreStreamPieces image sup stream laid.pieces × (laid.slack ≡ slack_of image sup stream)
 all_passed image sup stream block laid some enough passed =
     let count : block_count sup stream.size ≤ laid.block = ⊎_elim (λ is. omega (arith, is, enough)) (λ past. past) passed.come in
     let end : min (laid.block * block_size sup) stream.size ≡ stream.size = omega (arith, blocks_hold stream.size (block_size sup) laid.block some count) in
     let P : ℕ → Type 0 = λ size. ArePiecesAt (byte_place image sup stream) size laid.pieces in
-    subst P end passed.placed
+    let all : nat_le (block_count sup stream.size) laid.block ≡ true = le-leb (block_count sup stream.size) laid.block count in
+    (subst P end passed.placed.0, passed.placed.1 ∙ rw all refl)
 
 -- the content of an inode: twelve direct pointers, and three of rising levels
 pub content_law : (image : List ℕ) (sup : Super) (size : ℕ) (direct : List Pointer) (one two three : Pointer) (runs : ℕ) (after : Laid) → HasPointers sup → length direct ≡ 12
     → block_count sup size ≤ 12 + span sup 1 + span sup 2 + span sup 3
     → result_of image (stream_blocks sup (record { size = size; direct = direct; indirect = one ∷ two ∷ three ∷ [] }) runs) ≡ Ok after
     → AreStreamPieces image sup (record { size = size; direct = direct; indirect = one ∷ two ∷ three ∷ [] }) after.pieces
+    × (after.slack ≡ slack_of image sup (record { size = size; direct = direct; indirect = one ∷ two ∷ three ∷ [] }))
 unfolding stream_blocks
 content_law image sup size direct one two three runs after has twelve reached gives =
     let stream : Stream = record { size = size; direct = direct; indirect = one ∷ two ∷ three ∷ [] } in
-    let none : min (0 * block_size sup) size ≡ 0 = omega arith in
-    let N : ℕ → Type 0 = λ end. ArePiecesAt (byte_place image sup stream) end [] in
-    let start : HasPassed image sup stream 0 (none_laid runs) = record { placed = subst N (sym none) (record { covered = refl; placed = All-nil (IsPlaced (byte_place image sup stream)) }); come = inl refl } in
+    let start : HasPassed image sup stream 0 (none_laid runs) = record { placed = none_is_laid image sup stream runs; come = inl refl } in
     let a = bind_gives image (through (mapped_blocks 0 sup stream.size) (none_laid runs) direct) _ after gives in
     let b = bind_gives image (mapped_blocks 1 sup stream.size a.0 one) _ after a.2 in
     let c = bind_gives image (mapped_blocks 2 sup stream.size b.0 two) _ after b.2 in
@@ -398,5 +318,5 @@ content_law image sup size direct one two three runs after has twelve reached gi
     let passed_c : HasPassed image sup stream (12 + span sup 1 + span sup 2) c.0 = record { placed = on_c.placed; come = come_on sup stream (12 + span sup 1) (span sup 2) b.0 c.0 passed_b.come on_c.come } in
     let on_d = passes 3 image sup stream has c.0 d.0 three.at three.value passed_c.placed (come_to 3 image sup stream (12 + span sup 1 + span sup 2) c.0 three.value passed_c.come (maps_3 image sup stream)) d.1 in
     let passed_d : HasPassed image sup stream (12 + span sup 1 + span sup 2 + span sup 3) d.0 = record { placed = on_d.placed; come = come_on sup stream (12 + span sup 1 + span sup 2) (span sup 3) c.0 d.0 passed_c.come on_d.come } in
-    let E : Laid → Type 0 = λ laid. AreStreamPieces image sup stream laid.pieces in
+    let E : Laid → Type 0 = λ laid. AreStreamPieces image sup stream laid.pieces × (laid.slack ≡ slack_of image sup stream) in
     subst E (same_value d.0 after d.2) (all_passed image sup stream (12 + span sup 1 + span sup 2 + span sup 3) d.0 has.some_bytes reached passed_d)

@@ -1,3 +1,4 @@
+pub mod BlockSteps
 pub mod BlockLaw
 pub mod InodeLaws
 pub mod SoundSuper

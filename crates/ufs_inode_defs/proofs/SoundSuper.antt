@@ -1,14 +1,17 @@
 -- What holds of a superblock in which nothing is wrong.
-use Rattle.std.specs.Prelude.{◌≡◌, ℕ, ◌*◌, ◌/◌, ◌≤◌, ◌<◌, Bool, true, false, not, ◌&&◌, ◌==◌, nat_le, if◌then◌else◌, Some, None, List, [], ◌∷◌, refl}
-use Rattle.std.specs.Int.{is_power_of_two}
-use Rattle.std.proofs.Common.{arith, ap}
-use Rattle.std.proofs.lemmas.Bool.{leb-true}
+use Rattle.std.specs.Prelude.{◌≡◌, ℕ, suc, ◌*◌, ◌/◌, ◌≤◌, ◌<◌, Bool, true, false, not, ◌&&◌, ◌==◌, nat_le, if◌then◌else◌, Some, None, List, [], ◌∷◌, refl}
+use Rattle.std.specs.Int.{is_power_of_two, div_ceil}
+use Rattle.std.specs.List.{list_any}
+use Rattle.std.proofs.Common.{arith, ap, ⊎_elim}
+use Rattle.std.proofs.lemmas.Bool.{leb-true, cases_lt}
 use Rattle.std.proofs.lemmas.Bool.Decides.{Decides-eqb}
 use Rattle.bytes_defs.specs.Numbers.{bytes_of_width}
-use Rattle.std.proofs.Math.Nat.{le-div_iff_mul-le, div-mul-le_self}
+use Rattle.std.proofs.lemmas.Grind.{div_ceil_times}
+use Rattle.std.proofs.Math.Nat.{mul-le-mul_right, le-div_iff_mul-le, div-mul-le_self}
 use Rattle.ufs_inode_defs.specs.Layout.{Layout, layout_1, layout_2, pointer_len}
-use Rattle.ufs_inode_defs.specs.Superblock.{first_applying, wrong_parts, wrong_field, block_size, fragment_size, is_block_size, is_fragment_size}
-use Rattle.ufs_inode_defs.proofs.BlockLaw.{HasPointers}
+use Rattle.ufs_inode_defs.specs.Numbers.{counted}
+use Rattle.ufs_inode_defs.specs.Superblock.{first_applying, wrong_parts, wrong_field, block_size, fragment_size, is_block_size, is_fragment_size, is_fragment_count}
+use Rattle.ufs_inode_defs.proofs.BlockSteps.{HasPointers}
 use Rattle.ufs_inode_defs.specs.declared.superblock.Super.{Super}
 
 -- no part of the list applies
@@ -42,6 +45,12 @@ least_fragment : (size : ℕ) → not (is_fragment_size size) ≡ false → 512 
 unfolding is_fragment_size
 least_fragment size none = leb-true 512 size (both_hold (is_power_of_two size) (nat_le 512 size) (it_holds (is_fragment_size size) none)).1
 
+fragment_counts : (count fragment block : ℕ) → not (is_fragment_count count fragment block) ≡ false → count * fragment ≡ block
+unfolding is_fragment_count
+fragment_counts count fragment block none =
+    (Decides-eqb (count * fragment) block).0
+    (both_hold (list_any (λ n. count == n) (1 ∷ 2 ∷ 4 ∷ 8 ∷ [])) (count * fragment == block) (it_holds (is_fragment_count count fragment block) none)).1
+
 equal : (a b : ℕ) → not (a == b) ≡ false → a ≡ b
 equal a b none = (Decides-eqb a b).0 (it_holds (a == b) none)
 
@@ -49,6 +58,7 @@ equal a b none = (Decides-eqb a b).0 (it_holds (a == b) none)
 pub record IsSound (sup : Super) : Type 0 where
   pub block : 4096 ≤ block_size sup
   pub fragment : 512 ≤ fragment_size sup
+  pub fragments : counted sup.frag * fragment_size sup ≡ block_size sup
   pub pointers : sup.nindir ≡ block_size sup / pointer_len sup.version
 
 pub is_sound : (sup : Super) → wrong_field sup ≡ None → IsSound sup
@@ -58,8 +68,18 @@ is_sound sup none =
     record {
       block = least_block (block_size sup) parts.0;
       fragment = least_fragment (fragment_size sup) parts.1.0;
+      fragments = fragment_counts (counted sup.frag) (fragment_size sup) (block_size sup) parts.1.1.0;
       pointers = equal sup.nindir (block_size sup / pointer_len sup.version) parts.1.1.1.0;
     }
+
+-- so many units are whole
+whole_units : (count unit size : ℕ) → 0 < unit → count * unit ≡ size → div_ceil size unit * unit ≡ size
+whole_units count unit size some is =
+    let times = div_ceil_times size unit some in
+    ⊎_elim
+    (λ more. let next : suc count * unit ≤ div_ceil size unit * unit = mul-le-mul_right unit more in absurd (omega (arith, next, times.1, is)))
+    (λ enough. let most : div_ceil size unit * unit ≤ count * unit = mul-le-mul_right unit enough in omega (arith, most, times.0, is))
+    (cases_lt count (div_ceil size unit))
 
 -- a pointer has some bytes
 pointer_bytes : (first : Bool) → (let layout : Layout = if first then layout_1 else layout_2 in (0 < bytes_of_width layout.pointer) × (bytes_of_width layout.pointer ≤ 8))
@@ -70,7 +90,7 @@ pointer_bytes false = (omega arith, omega arith)
 pub has_pointers : (sup : Super) → IsSound sup → HasPointers sup
 has_pointers sup sound =
     let all = by_len (pointer_len sup.version) (pointer_bytes (sup.version == 1)) sound.pointers in
-    record { some_bytes = all.0; some_pointers = all.1; whole = all.2 }
+    record { some_bytes = all.0; some_pointers = all.1; whole = all.2; full = whole_units (counted sup.frag) (fragment_size sup) (block_size sup) (let some = sound.fragment in omega (arith, some)) sound.fragments }
   where
     by_len : (len : ℕ) → (0 < len) × (len ≤ 8) → sup.nindir ≡ block_size sup / len → (0 < block_size sup) × (0 < sup.nindir) × (sup.nindir * len ≤ block_size sup)
     by_len len some is =

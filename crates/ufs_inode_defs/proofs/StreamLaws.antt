@@ -1,24 +1,23 @@
 -- The pieces of an inode's streams are those of its bytes.
-use Rattle.std.specs.Prelude.{◌≡◌, ℕ, suc, ◌+◌, ◌*◌, ◌<◌, ◌≤◌, min, Bool, true, false, ◌||◌, nat_lt, Result, Ok, List, [], ◌∷◌, length, refl}
+use Rattle.std.specs.Prelude.{◌≡◌, ℕ, suc, ◌+◌, ◌*◌, ◌<◌, ◌≤◌, Bool, true, false, ◌||◌, nat_lt, Result, Ok, List, [], ◌∷◌, length, refl}
 use Rattle.std.specs.Int.{div_ceil}
-use Rattle.std.proofs.Common.{ap, sym, ◌∙◌, subst, arith, inl, ⊎_elim}
+use Rattle.std.proofs.Common.{ap, ◌∙◌, subst, arith, inl, ⊎_elim}
 use Rattle.std.proofs.Math.Nat.{mul-le-mul_right, mul_comm}
 use Rattle.std.proofs.lemmas.Bool.{cases_lt, ltb-false}
 use Rattle.std.proofs.lemmas.Grind.{div_ceil_times}
-use Rattle.std.proofs.lemmas.List.Elements.{All-nil}
 use Rattle.image_defs.specs.Ask.{result_of}
 use Rattle.image_defs.specs.Through.{through}
 use Rattle.image_defs.proofs.Looks.{bind_gives}
-use Rattle.piece_defs.specs.Places.{IsPlaced, ArePiecesAt}
 use Rattle.fault_defs.specs.declared.Refusal.{Refusal}
 use Rattle.ufs_inode_defs.specs.Layout.{layout_of, pointer_len}
 use Rattle.ufs_inode_defs.specs.Superblock.{block_size, inode_place}
 use Rattle.ufs_inode_defs.specs.Inode.{reach, is_too_long}
 use Rattle.ufs_inode_defs.specs.Stream.{Pointer, Stream, pointers_from, span, block_count}
 use Rattle.ufs_inode_defs.specs.Blocks.{Laid, none_laid, mapped_blocks, rising_blocks, stream_blocks}
-use Rattle.ufs_inode_defs.specs.BlockPlace.{value_of, byte_place, AreStreamPieces}
+use Rattle.ufs_inode_defs.specs.BlockPlace.{slack_of, value_of, AreStreamPieces}
 use Rattle.ufs_inode_defs.specs.StreamLaws.{StreamLaw}
-use Rattle.ufs_inode_defs.proofs.BlockLaw.{HasPointers, HasPassed, direct_pass, all_passed, content_law}
+use Rattle.ufs_inode_defs.proofs.BlockSteps.{HasPointers, HasPassed}
+use Rattle.ufs_inode_defs.proofs.BlockLaw.{none_is_laid, direct_pass, all_passed, content_law}
 use Rattle.ufs_inode_defs.proofs.InodeLaws.{HasRows, has_rows, pointers_from-length, inode_read}
 use Rattle.ufs_inode_defs.proofs.SoundSuper.{is_sound, has_pointers}
 use Rattle.ufs_inode_defs.specs.declared.superblock.Super.{Super}
@@ -37,16 +36,15 @@ few_blocks size unit count some fits =
 -- a stream of no more blocks than it has direct pointers
 direct_law : (image : List ℕ) (sup : Super) (size : ℕ) (direct : List Pointer) (runs : ℕ) (laid : Laid) → HasPointers sup → length direct ≤ 12 → block_count sup size ≤ length direct
     → result_of image (stream_blocks sup (record { size = size; direct = direct; indirect = [] }) runs) ≡ Ok laid → AreStreamPieces image sup (record { size = size; direct = direct; indirect = [] }) laid.pieces
+    × (laid.slack ≡ slack_of image sup (record { size = size; direct = direct; indirect = [] }))
 unfolding stream_blocks
 direct_law image sup size direct runs laid has few reached gives =
     let stream : Stream = record { size = size; direct = direct; indirect = [] } in
     let first = bind_gives image (through (mapped_blocks 0 sup size) (none_laid runs) direct) (λ found. rising_blocks 1 sup size found []) laid gives in
-    let none : min (0 * block_size sup) size ≡ 0 = omega arith in
-    let N : ℕ → Type 0 = λ end. ArePiecesAt (byte_place image sup stream) end [] in
-    let start : HasPassed image sup stream 0 (none_laid runs) = record { placed = subst N (sym none) (record { covered = refl; placed = All-nil (IsPlaced (byte_place image sup stream)) }); come = inl refl } in
+    let start : HasPassed image sup stream 0 (none_laid runs) = record { placed = none_is_laid image sup stream runs; come = inl refl } in
     let passed : HasPassed image sup stream (0 + length direct) first.0 =
     direct_pass image sup stream has direct 0 (none_laid runs) first.0 (omega (arith, few)) (λ i below. ap (λ n. value_of direct n) (omega arith)) start first.1 in
-    let E : Laid → Type 0 = λ found. AreStreamPieces image sup stream found.pieces in
+    let E : Laid → Type 0 = λ found. AreStreamPieces image sup stream found.pieces × (found.slack ≡ slack_of image sup stream) in
     subst E (same_value first.0 laid first.2) (all_passed image sup stream (0 + length direct) first.0 has.some_bytes (omega (arith, reached)) passed)
   where
     same_value : (one other : Laid) → (let a : Result Laid Refusal = Ok one in let b : Result Laid Refusal = Ok other in a ≡ b) → one ≡ other
@@ -56,6 +54,7 @@ direct_law image sup size direct runs laid has few reached gives =
 three_law : (image : List ℕ) (sup : Super) (size : ℕ) (direct indirect : List Pointer) (runs : ℕ) (laid : Laid) → HasPointers sup → length direct ≡ 12 → length indirect ≡ 3
     → block_count sup size ≤ 12 + span sup 1 + span sup 2 + span sup 3
     → result_of image (stream_blocks sup (record { size = size; direct = direct; indirect = indirect }) runs) ≡ Ok laid → AreStreamPieces image sup (record { size = size; direct = direct; indirect = indirect }) laid.pieces
+    × (laid.slack ≡ slack_of image sup (record { size = size; direct = direct; indirect = indirect }))
 three_law image sup size direct [] runs laid has twelve three reached gives = absurd (omega (arith, three))
 three_law image sup size direct (one ∷ []) runs laid has twelve three reached gives = absurd (omega (arith, three))
 three_law image sup size direct (one ∷ two ∷ []) runs laid has twelve three reached gives = absurd (omega (arith, three))

@@ -1,12 +1,13 @@
 -- Where one byte of a stream stands in an image.
 use Rattle.std.specs.Prelude.{ℕ, zero, suc, ◌+◌, ◌-◌, ◌*◌, ◌/◌, ◌%◌, ℤ, pos, negsuc, nat_lt, if◌then◌else◌, Option, Some, None, List, [], ◌∷◌}
+use Rattle.range_defs.specs.declared.Range.{Range}
 use Rattle.rx_ranges.specs.declared.pieces.Piece.{Piece}
 use Rattle.bytes_defs.specs.Numbers.{signed_at}
 use Rattle.piece_defs.specs.Places.{ArePiecesAt}
 use Rattle.ufs_inode_defs.specs.Layout.{layout_of, pointer_len}
 use Rattle.ufs_inode_defs.specs.Superblock.{block_size}
-use Rattle.ufs_inode_defs.specs.Stream.{Pointer, Stream, span}
-use Rattle.ufs_inode_defs.specs.Blocks.{fragment_place}
+use Rattle.ufs_inode_defs.specs.Stream.{Pointer, Stream, span, block_count, content_len, allocated_len}
+use Rattle.ufs_inode_defs.specs.Blocks.{behind, fragment_place}
 use Rattle.ufs_inode_defs.specs.declared.superblock.Super.{Super}
 
 -- the pointer of a number in the block of pointers at a place
@@ -48,3 +49,16 @@ byte_place image sup stream byte = led_place sup (block_pointer image sup stream
 -- pieces that cover a stream in order, each as long as possible, and put each byte where it stands
 abbrev pub AreStreamPieces : List ℕ → Super → Stream → List Piece → Type 0
 AreStreamPieces image sup stream pieces = ArePiecesAt (byte_place image sup stream) stream.size pieces
+
+-- what a block has behind the content's end, if the block stands at a place
+abbrev pub behind_place : Super → ℕ → ℕ → Option ℕ → List Range
+behind_place sup size block None = []
+behind_place sup size block (Some at) = behind at (content_len sup size block) (allocated_len sup size block)
+
+abbrev pub behind_last : List ℕ → Super → Stream → ℕ → List Range
+behind_last image sup stream zero = []
+behind_last image sup stream (suc last) = behind_place sup stream.size last (byte_place image sup stream (last * block_size sup))
+
+-- the slack of a stream: what its last block has behind the end
+unfoldable pub slack_of : List ℕ → Super → Stream → List Range
+slack_of image sup stream = behind_last image sup stream (block_count sup stream.size)

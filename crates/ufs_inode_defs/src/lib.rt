@@ -7,8 +7,9 @@
 //!     // block 12 of a file is the first that its first block of pointers maps
 //!     block_pointer image sup stream 12 ≡ mapped_pointer 1 image sup (value_of stream.indirect 0) 0
 //!
-//! The promised laws of `laws`: the pieces that a walk over the pointers finds cover the content in order, are the longest, and put
-//! each byte where it stands; of a superblock that is refused a field is wrong, and none is of one that is read.
+//! The promised law of `laws`: the pieces that a walk over the pointers finds cover a stream in order, are the longest, and put
+//! each byte where it stands, and the slack is what the last block has behind the end. Fields, places of inodes and streams
+//! worked out by hand are computed in `proofs/Rows`.
 #![tactic(auto)]
 
 pub mod inode;
