@@ -58,20 +58,20 @@ abbrev found_t : List ℕ → Result (List FileEntry) Refusal
 found_t = found_in 262144
 
 -- a file with these parts
-abbrev with_parts : ℕ → Kind → List (List ℕ) → List PartValue → FileEntry
+abbrev pub with_parts : ℕ → Kind → List (List ℕ) → List PartValue → FileEntry
 with_parts number kind names parts =
     record { id = record { volume = 0; number = number }; kind = kind; names = names; mode = None; links = None; uid = None; gid = None; times = no_times; parts = parts }
 
 -- a part of this content
-abbrev content : ℕ → List Piece → List Range → PartValue
+abbrev pub content : ℕ → List Piece → List Range → PartValue
 content size pieces slack = record { role = roles.Content; name = []; size = size; pieces = pieces; slack = slack; unreadable = false }
 
 -- a file of one part
-abbrev one_part : ℕ → Kind → List (List ℕ) → ℕ → List Piece → List Range → FileEntry
+abbrev pub one_part : ℕ → Kind → List (List ℕ) → ℕ → List Piece → List Range → FileEntry
 one_part number kind names size pieces slack = with_parts number kind names (content size pieces slack ∷ [])
 
 -- the root of one block at 81920
-abbrev root_t : FileEntry
+abbrev pub root_t : FileEntry
 root_t = one_part 2 Dir ((47 ∷ []) ∷ []) 512 (record { from = 0; len = 512; kind = Disk; at = 81920 } ∷ []) (record { at = 82432; len = 3584 } ∷ [])
 
 -- ---- whole trees
@@ -92,7 +92,7 @@ said_t = said (result_of image_t (volume_at (Little ∷ []) 262144 (whole 262144
     said (Ok found) = Ok (map (λ file. (file.mode, file.links, file.uid, file.gid, file.times)) found.files)
     said (Err refusal) = Err refusal
 
-abbrev all_0 : Times
+abbrev pub all_0 : Times
 all_0 = record { modified = Some (unix_moment (pos 0)); changed = Some (unix_moment (pos 0)); accessed = Some (unix_moment (pos 0)); created = Some (unix_moment (pos 0)) }
 
 inodes_t : said_t ≡ Ok ((Some 0x41ED, Some 2, Some 0, Some 0, all_0) ∷ (Some 0x81A4, Some 1, Some 0, Some 0, all_0) ∷ [])
