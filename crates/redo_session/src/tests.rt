@@ -1,6 +1,6 @@
 //! Examples with values that are worked out by hand.
 use super::{Session, finish};
-use journal_format::read_journal;
+use journal_format::{journal_len, read_journal};
 use rx_store::{Area, Fault, MemStore, Store};
 use session_defs::{Turn, TurnFault};
 use std::alloc::{AllocError, Global};
@@ -34,7 +34,7 @@ fn is_filled(image: &[u8]) -> bool {
 fn a_plan_is_carried_out_in_fourteen_calls(rt: HostRuntime) -> Result<(), Fail> {
     let state = read_journal(rt.alloc(), &mut store_of(rt.alloc(), &FILLED)?)?;
     let mut store = store_of(rt.alloc(), &[])?;
-    assert_eq!(rt; store.len(Area::Image), Ok(state.plan.image_len));
+    assert!(rt; store.len(Area::Image)? == state.plan.image_len);
     store.fail_at(vec![in rt.alloc(); 16]?);
     let mut session = Session::begin(rt.alloc(), &state.plan)?;
     assert_eq!(rt; finish(&mut session, &mut store), Ok(()));
@@ -53,10 +53,12 @@ fn a_session_goes_on_where_one_was_stopped(rt: HostRuntime) -> Result<(), Fail> 
     let mut store = store_of(rt.alloc(), &open)?;
     let state = read_journal(rt.alloc(), &mut store)?;
     assert!(rt; !state.complete());
-    assert_eq!(rt; store.len(Area::Image), Ok(state.plan.image_len));
+    assert!(rt; store.len(Area::Image)? == state.plan.image_len);
     let mut session = Session::resume(rt.alloc(), &state)?;
     assert_eq!(rt; session.turn(&mut store), Ok(Turn::Filled));
     let mut other = Session::resume(rt.alloc(), &state)?;
+    assert!(rt; store.len(Area::Image)? == state.plan.image_len);
+    assert!(rt; store.len(Area::Journal)? == journal_len(&state.plan));
     assert_eq!(rt; finish(&mut other, &mut store), Ok(()));
     assert!(rt; is_filled(store.image()));
     assert_eq!(rt; store.journal(), FILLED.as_slice());
