@@ -20,6 +20,27 @@ fn bytes_of(alloc: Global, text: &[u8]) -> Result<Vec<u8>, AllocError>
     Vec::from_slice(alloc, text)
 }
 
+/// Writes bytes where they may be written.
+fn write<S: Store>(store: &mut S, area: Area, at: u64, bytes: &[u8]) -> Result<(), Fault> {
+    let size = store.len(area)?;
+    let len = match area {
+        Area::Image => bytes.len() as u64,
+        Area::Journal => 0,
+    };
+    if at > size || len > size - at {
+        return Err(Fault);
+    }
+    store.write_at(area, at, bytes)
+}
+
+/// Cuts the journal where it is that long.
+fn cut<S: Store>(store: &mut S, len: u64) -> Result<(), Fault> {
+    if len > store.len(Area::Journal)? {
+        return Err(Fault);
+    }
+    store.cut_journal(len)
+}
+
 #[test]
 fn a_store_in_memory_fails_where_it_is_told_to(rt: HostRuntime) -> Result<(), Fail> {
     let image = bytes_of(rt.alloc(), b"abcdef")?;
@@ -44,17 +65,17 @@ fn a_store_in_memory_is_written_while_there_is_room(rt: HostRuntime) -> Result<(
     let image = bytes_of(rt.alloc(), b"abcdef")?;
     let journal = bytes_of(rt.alloc(), b"xy")?;
     let mut store = MemStore::new(rt.alloc(), image, journal, 4, 6, 8)?;
-    assert_eq!(rt; store.write_at(Area::Image, 2, b"XY"), Ok(()));
+    assert_eq!(rt; write(&mut store, Area::Image, 2, b"XY"), Ok(()));
     assert_eq!(rt; store.image(), b"abXYef".as_slice());
-    assert_eq!(rt; store.write_at(Area::Journal, 1, b"123"), Ok(()));
+    assert_eq!(rt; write(&mut store, Area::Journal, 1, b"123"), Ok(()));
     assert_eq!(rt; store.journal(), b"x123".as_slice());
-    assert_eq!(rt; store.write_at(Area::Journal, 4, b"4"), Err(Fault));
-    assert_eq!(rt; store.cut_journal(2), Ok(()));
+    assert_eq!(rt; write(&mut store, Area::Journal, 4, b"4"), Err(Fault));
+    assert_eq!(rt; cut(&mut store, 2), Ok(()));
     assert_eq!(rt; store.sync(), Ok(()));
-    assert_eq!(rt; store.write_at(Area::Journal, 1, b"56"), Ok(()));
+    assert_eq!(rt; write(&mut store, Area::Journal, 1, b"56"), Ok(()));
     assert_eq!(rt; store.journal(), b"x56".as_slice());
-    assert_eq!(rt; store.write_at(Area::Image, 0, b"ab"), Err(Fault));
-    assert_eq!(rt; store.cut_journal(0), Ok(()));
+    assert_eq!(rt; write(&mut store, Area::Image, 0, b"ab"), Err(Fault));
+    assert_eq!(rt; cut(&mut store, 0), Ok(()));
     assert_eq!(rt; store.sync(), Err(Fault));
     assert_eq!(rt; store.faults(), 3);
     Ok(())
@@ -164,16 +185,16 @@ fn a_store_writes_its_files(rt: HostRuntime) -> Result<(), Fail> {
     fs::write(&rt, &image, "abcdef")?;
     fs::write(&rt, &journal, "xyz")?;
     let mut store = FileStore::new(opened_to_write(&rt, &image), opened_to_write(&rt, &journal));
-    assert_eq!(rt; store.write_at(Area::Image, 2, b"XY"), Ok(()));
-    assert_eq!(rt; store.cut_journal(1), Ok(()));
-    assert_eq!(rt; store.write_at(Area::Journal, 1, b"123"), Ok(()));
+    assert_eq!(rt; write(&mut store, Area::Image, 2, b"XY"), Ok(()));
+    assert_eq!(rt; cut(&mut store, 1), Ok(()));
+    assert_eq!(rt; write(&mut store, Area::Journal, 1, b"123"), Ok(()));
     assert_eq!(rt; store.sync(), Ok(()));
     assert_eq!(rt; size(&rt, &mut store, Area::Journal), 4);
     assert_eq!(rt; fs::read_to_string(&rt, &image)?.as_str(), "abXYef");
     assert_eq!(rt; fs::read_to_string(&rt, &journal)?.as_str(), "x123");
     let mut read_only = FileStore::new(opened(&rt, &image), Opened::Absent);
-    assert_eq!(rt; read_only.write_at(Area::Image, 2, b"--"), Err(Fault));
-    assert_eq!(rt; read_only.write_at(Area::Journal, 0, b"-"), Err(Fault));
+    assert_eq!(rt; write(&mut read_only, Area::Image, 2, b"--"), Err(Fault));
+    assert_eq!(rt; write(&mut read_only, Area::Journal, 0, b"-"), Err(Fault));
     assert_eq!(rt; fs::read_to_string(&rt, &image)?.as_str(), "abXYef");
     fs::remove_file(&rt, &image)?;
     fs::remove_file(&rt, &journal)?;
