@@ -60,24 +60,36 @@ fn a_store_in_memory_fails_where_it_is_told_to(rt: HostRuntime) -> Result<(), Fa
     Ok(())
 }
 
+/// Writes to both areas, and gives the journal's size then.
+fn change_both<S: Store>(store: &mut S) -> Result<u64, Fault> {
+    write(store, Area::Image, 2, b"XY")?;
+    cut(store, 1)?;
+    write(store, Area::Journal, 1, b"123")?;
+    store.sync()?;
+    store.len(Area::Journal)
+}
+
+#[test]
+fn a_store_in_memory_is_written(rt: HostRuntime) -> Result<(), Fail> {
+    let image = bytes_of(rt.alloc(), b"abcdef")?;
+    let journal = bytes_of(rt.alloc(), b"xyz")?;
+    let mut store = MemStore::new(rt.alloc(), image, journal, 4, 4, 5)?;
+    assert_eq!(rt; change_both(&mut store), Ok(4));
+    assert_eq!(rt; store.image(), b"abXYef".as_slice());
+    assert_eq!(rt; store.journal(), b"x123".as_slice());
+    assert_eq!(rt; store.sync(), Err(Fault));
+    Ok(())
+}
+
 #[test]
 fn a_store_in_memory_is_written_while_there_is_room(rt: HostRuntime) -> Result<(), Fail> {
-    let image = bytes_of(rt.alloc(), b"abcdef")?;
-    let journal = bytes_of(rt.alloc(), b"xy")?;
-    let mut store = MemStore::new(rt.alloc(), image, journal, 4, 6, 8)?;
-    assert_eq!(rt; write(&mut store, Area::Image, 2, b"XY"), Ok(()));
-    assert_eq!(rt; store.image(), b"abXYef".as_slice());
+    let journal = bytes_of(rt.alloc(), b"x")?;
+    let mut store = MemStore::new(rt.alloc(), Vec::new(rt.alloc()), journal, 4, 9, 4)?;
+    assert_eq!(rt; write(&mut store, Area::Journal, 1, b"1234"), Err(Fault));
     assert_eq!(rt; write(&mut store, Area::Journal, 1, b"123"), Ok(()));
+    assert_eq!(rt; write(&mut store, Area::Journal, 0, b"ab"), Err(Fault));
     assert_eq!(rt; store.journal(), b"x123".as_slice());
-    assert_eq!(rt; write(&mut store, Area::Journal, 4, b"4"), Err(Fault));
-    assert_eq!(rt; cut(&mut store, 2), Ok(()));
-    assert_eq!(rt; store.sync(), Ok(()));
-    assert_eq!(rt; write(&mut store, Area::Journal, 1, b"56"), Ok(()));
-    assert_eq!(rt; store.journal(), b"x56".as_slice());
-    assert_eq!(rt; write(&mut store, Area::Image, 0, b"ab"), Err(Fault));
-    assert_eq!(rt; cut(&mut store, 0), Ok(()));
-    assert_eq!(rt; store.sync(), Err(Fault));
-    assert_eq!(rt; store.faults(), 3);
+    assert_eq!(rt; store.faults(), 2);
     Ok(())
 }
 
@@ -185,19 +197,23 @@ fn a_store_writes_its_files(rt: HostRuntime) -> Result<(), Fail> {
     fs::write(&rt, &image, "abcdef")?;
     fs::write(&rt, &journal, "xyz")?;
     let mut store = FileStore::new(opened_to_write(&rt, &image), opened_to_write(&rt, &journal));
-    assert_eq!(rt; write(&mut store, Area::Image, 2, b"XY"), Ok(()));
-    assert_eq!(rt; cut(&mut store, 1), Ok(()));
-    assert_eq!(rt; write(&mut store, Area::Journal, 1, b"123"), Ok(()));
-    assert_eq!(rt; store.sync(), Ok(()));
-    assert_eq!(rt; size(&rt, &mut store, Area::Journal), 4);
+    assert_eq!(rt; change_both(&mut store), Ok(4));
     assert_eq!(rt; fs::read_to_string(&rt, &image)?.as_str(), "abXYef");
     assert_eq!(rt; fs::read_to_string(&rt, &journal)?.as_str(), "x123");
-    let mut read_only = FileStore::new(opened(&rt, &image), Opened::Absent);
-    assert_eq!(rt; write(&mut read_only, Area::Image, 2, b"--"), Err(Fault));
-    assert_eq!(rt; write(&mut read_only, Area::Journal, 0, b"-"), Err(Fault));
-    assert_eq!(rt; fs::read_to_string(&rt, &image)?.as_str(), "abXYef");
     fs::remove_file(&rt, &image)?;
     fs::remove_file(&rt, &journal)?;
+    Ok(())
+}
+
+#[test]
+fn a_store_that_may_only_read_is_not_written(rt: HostRuntime) -> Result<(), Fail> {
+    let path = place(&rt, "kept")?;
+    fs::write(&rt, &path, "abcdef")?;
+    let mut store = FileStore::new(opened(&rt, &path), Opened::Absent);
+    assert_eq!(rt; write(&mut store, Area::Image, 2, b"--"), Err(Fault));
+    assert_eq!(rt; write(&mut store, Area::Journal, 0, b"-"), Err(Fault));
+    assert_eq!(rt; fs::read_to_string(&rt, &path)?.as_str(), "abcdef");
+    fs::remove_file(&rt, &path)?;
     Ok(())
 }
 
