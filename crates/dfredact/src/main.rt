@@ -6,7 +6,7 @@
 //!     dfredact report JOURNAL
 //!
 //! main opens the files that the words name and calls `run` of `redact_cmd` over them and standard output. The image is opened for
-//! writing by `redact` and `resume` alone, and `redact` makes the journal's file where there is none. main writes the line of the
+//! writing by `redact` and `resume` alone, and `redact` makes the journal's file where there is none, and syncs its folder. main writes the line of the
 //! status to standard error and ends with the status' number. A file that can't be opened is handed in as a store or a source
 //! whose calls fail, so `run` answers for it.
 #![tactic(auto)]
@@ -18,6 +18,7 @@ use std::env;
 use std::fs::{File, OpenOptions};
 use std::io::{self, ErrorKind};
 use std::os::unix::fs::MetadataExt;
+use std::path::Path;
 use std::process::ExitCode;
 use std::rt::{Env, Files};
 
@@ -80,16 +81,31 @@ fn files_of(words: &[String]) -> Named<'_> {
     }
 }
 
+/// Makes a file, and waits until its name is on the disk too.
+fn made(rt: &impl Files<File = File>, path: &str) -> io::Result<File> {
+    let file = File::create_new(rt, path)?;
+    let folder = match Path::new(path).parent() {
+        Some(folder) if folder != Path::new("") => File::open(rt, folder)?,
+        _ => File::open(rt, ".")?,
+    };
+    folder.sync_all()?;
+    Ok(file)
+}
+
 /// A file that a command names, as far as it could be opened.
 fn opened(rt: &impl Files<File = File>, named: Option<(&str, Use)>) -> Opened {
     let Some((path, how)) = named else {
         return Opened::Absent;
     };
-    let mut options = OpenOptions::new();
-    options.read(true);
-    options.write(how != Use::Read);
-    options.create(how == Use::Make);
-    match options.open(rt, path) {
+    let found = match OpenOptions::new()
+        .read(true)
+        .write(how != Use::Read)
+        .open(rt, path)
+    {
+        Err(error) if how == Use::Make && error.kind() == ErrorKind::NotFound => made(rt, path),
+        found => found,
+    };
+    match found {
         Ok(file) => Opened::Open(file),
         Err(_) => Opened::Failed,
     }
