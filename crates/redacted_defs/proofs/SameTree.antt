@@ -1,0 +1,85 @@
+-- A filled image has the same tree: no byte of the guard is planned, so that the two agree there.
+use Rattle.std.proofs.Common.{◌≡◌, ℕ, zero, suc, ◌<◌, Bool, true, ◌&&◌, Some, None, Ok, Err, Result, Option, is_some, cond, List, length, refl, ap, subst, sym, ◌∙◌, ⊎_elim, arith}
+use Rattle.std.proofs.lemmas.Bool.{cases_lt, false≢true}
+use Rattle.range_defs.specs.declared.Range.{Range}
+use Rattle.range_defs.specs.Places.{covers, least_below, otherwise}
+use Rattle.range_defs.specs.Claims.{painted, longest_claims}
+use Rattle.range_defs.proofs.ClaimLaws.{painted-past, longest_claims_claim, longest_claims_ends}
+use Rattle.image_defs.specs.Agreement.{AgreeOn}
+use Rattle.image_defs.specs.Ask.{result_of}
+use Rattle.image_defs.specs.Runs.{with_value}
+use Rattle.rx_tree.specs.TreeValue.{TreeValue}
+use Rattle.rx_tree.specs.declared.file.FileEntry.{FileEntry}
+use Rattle.rule_defs.specs.declared.Rule.{Rule}
+use Rattle.plan_defs.specs.Plan.{planned_at, is_planned, plan_of, guarded_byte}
+use Rattle.session_defs.specs.Outcome.{filled}
+use Rattle.session_defs.proofs.Filled.{untouched_law}
+use Rattle.volume_defs.specs.FirstForm.{FirstFault, first_files}
+use Rattle.volume_defs.specs.FirstTree.{first_tree, guard_of, tree_of}
+use Rattle.volume_defs.proofs.FirstFootprint.{first_form_law}
+use Rattle.redacted_defs.specs.SameTree.{SameTreeLaw}
+
+-- ---- the guard of a tree is that of its image
+
+-- the guard of a tree that is there
+abbrev guard_or : List Range → Result TreeValue FirstFault → List Range
+guard_or other (Ok tree) = tree.guard
+guard_or other (Err fault) = other
+
+-- a tree that was made of files has this guard
+guard_of_files : (size : ℕ) (guard : List Range) (files : Result (List FileEntry) FirstFault) (tree : TreeValue)
+    → with_value (tree_of size guard) files ≡ Ok tree → tree.guard ≡ guard
+guard_of_files size guard (Ok files) tree same = sym (ap (guard_or guard) same)
+guard_of_files size guard (Err fault) tree same = sym (ap (guard_or guard) same)
+
+tree-guard : (image : List ℕ) (tree : TreeValue) → first_tree image ≡ Ok tree → tree.guard ≡ guard_of image
+unfolding first_tree
+tree-guard image tree same = guard_of_files (length image) (guard_of image) (result_of image (first_files (length image))) tree same
+
+-- ---- no byte of the guard is planned
+
+-- a byte that passes has a least one below each greater number
+some_below : (test : ℕ → Bool) (end byte : ℕ) → test byte ≡ true → byte < end → is_some (least_below test end) ≡ true
+unfolding least_below
+some_below test zero byte passes low = absurd (omega arith)
+some_below test (suc last) byte passes low =
+    ⊎_elim
+    (λ below. elim (least_below test last) as (λ r. is_some r ≡ true → is_some (otherwise r (cond (test last) (Some last) None)) ≡ true)
+    [ Some least ↦ λ some. refl | None ↦ λ some. absurd (false≢true some) ] (some_below test last byte passes below))
+    (λ above. let at : byte ≡ last = omega arith in
+    let here : test last ≡ true = subst (λ (b : ℕ). test b ≡ true) at passes in
+    elim (least_below test last) as (λ r. is_some (otherwise r (cond (test last) (Some last) None)) ≡ true)
+    [ Some least ↦ refl | None ↦ ap (λ t. is_some (cond t (Some last) None)) here ])
+    (cases_lt byte last)
+
+none_of : (paint : Option (ℕ × ℕ)) (planned guarded : Bool) (least : Option ℕ) → is_some paint ≡ planned → guarded ≡ true → least ≡ None
+    → (planned && guarded ≡ true → is_some least ≡ true) → paint ≡ None
+none_of None planned guarded least same guard none some = refl
+none_of (Some paint) planned guarded least same guard none some =
+    absurd (false≢true (sym (ap is_some none) ∙ some (ap (λ p. p && guarded) (sym same) ∙ guard)))
+
+unplanned : (tree : TreeValue) (rules : List Rule) (byte : ℕ) → guarded_byte tree rules ≡ None → covers tree.guard byte ≡ true
+    → painted (plan_of tree rules).ranges byte ≡ None
+unfolding guarded_byte plan_of
+unplanned tree rules byte none guard =
+    let paint : ℕ → Option (ℕ × ℕ) = planned_at rules tree.files in
+    let test : ℕ → Bool = λ b. is_planned rules tree.files b && covers tree.guard b in
+    ⊎_elim
+    (λ below. none_of (painted (longest_claims paint 0 tree.image_len) byte) (is_planned rules tree.files byte) (covers tree.guard byte)
+    (least_below test tree.image_len) (longest_claims_claim paint tree.image_len byte below) guard none
+    (λ passes. some_below test tree.image_len byte passes below))
+    (λ above. painted-past (longest_claims paint 0 tree.image_len) tree.image_len byte (longest_claims_ends paint tree.image_len) above)
+    (cases_lt byte tree.image_len)
+
+-- ---- the law
+
+agree-back : (ranges : List Range) (a b : List ℕ) → AgreeOn ranges a b → AgreeOn ranges b a
+agree-back ranges a b same = record { same_length = sym same.same_length; same_bytes = λ byte covered. sym (same.same_bytes byte covered) }
+
+pub same_tree_law : SameTreeLaw
+same_tree_law image tree rules is_tree none =
+    let claims = (plan_of tree rules).ranges in
+    let agree = agree-back (guard_of image) (filled claims image) image (untouched_law claims image (guard_of image)
+    (λ byte covered. unplanned tree rules byte none (ap (λ guard. covers guard byte) (tree-guard image tree is_tree) ∙ covered))) in
+    let same = first_form_law image (filled claims image) agree in
+    (same.0 ∙ is_tree, same.1)

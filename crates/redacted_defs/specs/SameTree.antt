@@ -1,0 +1,16 @@
+-- The tree of an image that was filled as its plan says.
+use Rattle.std.specs.Prelude.{◌≡◌, ℕ, None, Ok, List}
+use Rattle.plan_defs.specs.Plan.{plan_of, guarded_byte}
+use Rattle.rule_defs.specs.declared.Rule.{Rule}
+use Rattle.rx_tree.specs.TreeValue.{TreeValue}
+use Rattle.session_defs.specs.Outcome.{filled}
+use Rattle.volume_defs.specs.FirstTree.{first_tree, guard_of}
+
+-- an image with the planned bytes filled
+abbrev pub redacted : TreeValue → List Rule → List ℕ → List ℕ
+redacted tree rules image = filled (plan_of tree rules).ranges image
+
+-- Where the plan of an image fills no byte of its guard, the filled image has the same tree and the same guard.
+abbrev pub SameTreeLaw : Type 0
+SameTreeLaw = (image : List ℕ) (tree : TreeValue) (rules : List Rule) → first_tree image ≡ Ok tree → guarded_byte tree rules ≡ None
+    → (first_tree (redacted tree rules image) ≡ Ok tree) × (guard_of (redacted tree rules image) ≡ guard_of image)
