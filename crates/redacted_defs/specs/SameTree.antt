@@ -1,7 +1,9 @@
--- The tree of an image that was filled as its plan says.
-use Rattle.std.specs.Prelude.{◌≡◌, ℕ, None, Ok, List}
-use Rattle.plan_defs.specs.Plan.{plan_of, guarded_byte}
+-- The tree and the files of an image that was filled as its plan says.
+use Rattle.std.specs.Prelude.{◌≡◌, ℕ, false, None, Ok, List}
+use Rattle.image_defs.specs.Agreement.{AgreeOn}
+use Rattle.plan_defs.specs.Plan.{plan_of, guarded_byte, is_planned, touched_ranges, touches_planned}
 use Rattle.rule_defs.specs.declared.Rule.{Rule}
+use Rattle.rx_tree.specs.declared.file.FileEntry.{FileEntry}
 use Rattle.rx_tree.specs.TreeValue.{TreeValue}
 use Rattle.session_defs.specs.Outcome.{filled}
 use Rattle.volume_defs.specs.FirstTree.{first_tree, guard_of}
@@ -14,3 +16,8 @@ redacted tree rules image = filled (plan_of tree rules).ranges image
 abbrev pub SameTreeLaw : Type 0
 SameTreeLaw = (image : List ℕ) (tree : TreeValue) (rules : List Rule) → first_tree image ≡ Ok tree → guarded_byte tree rules ≡ None
     → (first_tree (redacted tree rules image) ≡ Ok tree) × (guard_of (redacted tree rules image) ≡ guard_of image)
+
+-- A file that touches no planned byte has the same bytes at all its places.
+abbrev pub SameFilesLaw : Type 0
+SameFilesLaw = (image : List ℕ) (tree : TreeValue) (rules : List Rule) (file : FileEntry)
+    → touches_planned tree.image_len (is_planned rules tree.files) file ≡ false → AgreeOn (touched_ranges file) (redacted tree rules image) image
