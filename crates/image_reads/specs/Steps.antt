@@ -1,0 +1,17 @@
+-- What a step of a reader answers. The reader keeps a list of the ranges at which it looked.
+use Rattle.std.specs.Prelude.{◌≡◌, ℕ, Option, IfSome, OnOk, Result, List, ◌++◌}
+use Rattle.range_defs.specs.declared.Range.{Range}
+use Rattle.image_defs.specs.Ask.{Ask, result_of, visits}
+use Rattle.fault_defs.specs.declared.Refusal.{Refusal}
+use Rattle.rx_store.specs.declared.read_fault.ReadFault.{ReadFault}
+use Rattle.rx_store.specs.Answers.{Answers}
+
+-- A step answers what its program gives on the image; with a value, the ranges that were kept are those of before and those
+-- at which the program looks.
+pub record IsRead {X : Type 0} (image : List ℕ) (program : Ask Refusal X) (before looked : List Range) (result : Result X ReadFault) : Type 0 where
+  pub given : Answers result (result_of image program)
+  pub looks : OnOk result (looked ≡ before ++ visits image program)
+
+-- the same of the image that a store tells, where it tells one
+abbrev pub ReadsAs : {X : Type 0} → Option (List ℕ) → Ask Refusal X → List Range → List Range → Result X ReadFault → Type 0
+ReadsAs told program before looked result = IfSome told (λ image. IsRead image program before looked result)

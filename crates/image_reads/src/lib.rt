@@ -1,0 +1,40 @@
+//! Reads of an image that are kept, and what a step of a reader answers.
+//!
+//! A reader of a file system keeps the ranges at which it looks: the guard of the tree is made of them. `look_at` reads a range
+//! and keeps it. What a step answers stands in `specs/Steps`: where the store tells its image, a step answers what the program
+//! of the definitions gives, and has kept the ranges at which the program looks.
+//!
+//!     let mut bytes = [0; 512];
+//!     look_at(&mut store, 1024, &mut bytes, &mut looked)?;
+//!     // looked now ends with the range (1024, 512)
+#![tactic(auto)]
+
+ghost use Rattle.std.specs.Prelude.{◌≡◌, ◌+◌, ◌≤◌, ◌∷◌, [], ◌++◌, length, OnOk, IfSome};
+ghost use Rattle.bytes_defs.specs.Bytes.{part};
+ghost use Rattle.disk_defs.specs.Disk.{size_of, told_image};
+ghost use Rattle.disk_defs.specs.declared.Area.TheVariants.{Image};
+ghost use Rattle.rx_store.specs.ReadFaults.{IsReadCounted};
+
+use range_defs::Range;
+use rx_store::{Area, ReadFault, Store};
+
+/// Reads the bytes of the image from a place on into the whole buffer, and keeps their range.
+pub fn look_at<S: Store>(
+    store: &mut S,
+    at: u64,
+    buf: &mut [u8],
+    looked: &mut Vec<Range>,
+) -> Result<(), ReadFault>
+    requires { at + length buf.old ≤ size_of Image (S.state store.old) }
+    ensures bytes { OnOk result (IfSome (told_image (S.state store.old)) (λ image. buf.new ≡ part image at (length buf.old))) }
+    ensures kept { OnOk result (looked.new.items ≡ looked.old.items ++ record { at = at; len = length buf.old } ∷ []) }
+    ensures same { S.state store.new ≡ S.state store.old }
+    ensures counted { IsReadCounted Image result (S.faults store.old) (S.faults store.new) }
+{
+    store.read_at(Area::Image, at, buf)?;
+    looked.push(Range {
+        at,
+        len: buf.len() as u64,
+    })?;
+    Ok(())
+}

@@ -1,0 +1,6 @@
+//! Finds where the streams of a UFS inode stand.
+//!
+//! After FreeBSD's sys/ufs/ufs/dinode.h: twelve pointers to blocks, then one, two and three levels of blocks of pointers.
+#![tactic(auto)]
+
+pub mod laid;

@@ -1,0 +1,8 @@
+//! Walks the directories of a UFS volume.
+//!
+//! After FreeBSD's sys/ufs/ufs/dir.h: from inode 2, directory by directory, breadth first.
+#![tactic(auto)]
+
+mod name;
+
+pub use name::Name;

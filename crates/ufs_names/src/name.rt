@@ -1,0 +1,29 @@
+//! Names.
+use rx_ranges::Text;
+use std::marker::Model;
+use ufs_inode_defs::inode::Inode;
+
+/// A name: the number and the inode that it is given to, its path, and the entry that gives it, which stands in the directory of a
+/// number at a byte of its content. The root's name stands in no directory.
+#[derive(Debug, Drop)]
+pub struct Name {
+    pub number: u32,
+    pub inode: Inode,
+    pub path: Text,
+    pub directory: u32,
+    pub offset: u64,
+}
+
+impl Model for Name {
+    ghost use Rattle.ufs_volume_defs.specs.Names.{Named};
+
+    ghost Value = { Named };
+
+    ghost view = { λ n. record {
+      number = n.number;
+      inode = n.inode;
+      path = n.path;
+      directory = n.directory;
+      offset = n.offset;
+    } };
+}
