@@ -1,8 +1,10 @@
 -- The ways of a reader through a program: it begins, a step gives a value or a refusal, a test passes, and it ends.
-use Rattle.std.specs.Prelude.{◌≡◌, ℕ, suc, ◌+◌, ◌<◌, ◌≤◌, Option, Some, None, OnOk, Result, Ok, Err, IsErr, IsErrAnd, List, ◌++◌, length, drop, get_or}
+use Rattle.std.specs.Prelude.{◌≡◌, ℕ, suc, ◌+◌, ◌<◌, ◌≤◌, Option, Some, None, IfSome, OnOk, Result, Ok, Err, IsErr, IsErrAnd, List, [], ◌∷◌, ◌++◌, length, drop, get_or}
 use Rattle.std.proofs.Common.{ap, sym, ◌∙◌, subst, arith, append_assoc, append-nil, drop-cons, drop_of_length-le}
 use Rattle.range_defs.specs.declared.Range.{Range}
-use Rattle.image_defs.specs.Ask.{Ask, Done, Stop, result_of, visits, ◌>>=◌}
+use Rattle.std.proofs.lemmas.List.Elements.{All-push}
+use Rattle.bytes_defs.specs.Bytes.{part}
+use Rattle.image_defs.specs.Ask.{Ask, Done, Stop, look, result_of, visits, ◌>>=◌}
 use Rattle.image_defs.specs.Standing.{StandsIn, IsCome}
 use Rattle.image_defs.specs.Through.{through}
 use Rattle.image_defs.proofs.Runs.{result_bind_ok, result_bind_err, visits_bind_ok}
@@ -12,7 +14,8 @@ use Rattle.rx_store.specs.declared.read_fault.ReadFault.{ReadFault}
 use Rattle.rx_store.specs.declared.read_fault.ReadFault.TheVariants.{Device, NoMemory, NotThis, Damaged, Unsupported, Limit}
 use Rattle.rx_store.specs.Answers.{Answers}
 use Rattle.rx_store.specs.ReadFaults.{fault_of}
-use Rattle.image_reads.specs.Steps.{IsRead, ReadsAs}
+use Rattle.image_defs.specs.Runs.{with_value}
+use Rattle.image_reads.specs.Steps.{IsRead, ReadsAs, IsNoRefusal, EndBy, KeptWithin}
 -- a fault says of a program what it says of another that stops with the same refusals
 fault_says : {X Y : Type 0} (fault : ReadFault) (one : Result X Refusal) (other : Result Y Refusal) → ((e : Refusal) → one ≡ Err e → other ≡ Err e)
     → (let from : Result X ReadFault = Err fault in Answers from one) → (let to : Result Y ReadFault = Err fault in Answers to other)
@@ -105,6 +108,35 @@ module _ {Y : Type 0} (told : Option (List ℕ)) (whole : Ask Refusal Y) (before
       by_told : (found : Option (List ℕ)) → ReadsAs found whole before looked (Err NoMemory)
       by_told None = tt
       by_told (Some image) = record { given = tt; looks = tt }
+
+  -- so does each fault that is no refusal
+  pub nothing_says : (looked : List Range) (fault : ReadFault) → IsNoRefusal fault → ReadsAs told whole before looked (Err fault)
+  nothing_says looked Device none = device_says looked
+  nothing_says looked NoMemory none = memory_says looked
+  nothing_says looked NotThis none = absurd none
+  nothing_says looked (Damaged sort place) none = absurd none
+  nothing_says looked (Unsupported what place) none = absurd none
+  nothing_says looked (Limit bound number) none = absurd none
+
+  -- such a fault ends a call whose value is seen as another
+  pub nothing_ends : {Z : Type 0} (looked : List Range) (seen : Z → Y) (result : Result Z ReadFault) (fault : ReadFault) → IsErr result → IsErrAnd result (λ other. other ≡ fault) → IsNoRefusal fault → ReadsAs told whole before looked (with_value seen result)
+  nothing_ends looked seen (Ok z) fault is passed none = absurd cc
+  nothing_ends looked seen (Err other) fault is passed none = nothing_says looked other (subst IsNoRefusal (sym passed) none)
+
+-- a look at a range whose bytes were read and whose range is kept
+pub look_says : (told later : Option (List ℕ)) (before looked : List Range) (at len : ℕ) (bytes : List ℕ) → later ≡ told → IfSome later (λ image. bytes ≡ part image at len) → looked ≡ before ++ record { at = at; len = len } ∷ []
+    → ReadsAs told (look at len) before looked (Ok bytes)
+look_says told later before looked at len bytes same read kept = by_told told (let P : Option (List ℕ) → Type 0 = λ found. IfSome found (λ image. bytes ≡ part image at len) in subst P same read)
+  where
+    by_told : (found : Option (List ℕ)) → IfSome found (λ image. bytes ≡ part image at len) → ReadsAs found (look at len) before looked (Ok bytes)
+    by_told None read = tt
+    by_told (Some image) read = record { given = ap Ok (sym read); looks = kept }
+
+-- one more range that ends in time
+pub kept_one : (last : ℕ) (before after : List Range) (at len : ℕ) → at + len ≤ last → after ≡ before ++ record { at = at; len = len } ∷ [] → KeptWithin last before after
+kept_one last before after at len fits kept = λ end enough ends.
+    let P : Range → Type 0 = λ range. range.at + range.len ≤ end in
+    subst (EndBy end) (sym kept) (All-push P before (record { at = at; len = len }) ends (omega (arith, fits, enough)))
 
 -- ---- from item to item
 

@@ -9,14 +9,18 @@
 //!     // looked now ends with the range (1024, 512)
 #![tactic(auto)]
 
-ghost use Rattle.std.specs.Prelude.{◌≡◌, ◌+◌, ◌≤◌, ◌∷◌, [], ◌++◌, length, OnOk, IfSome};
+ghost use Rattle.std.specs.Prelude.{◌≡◌, ◌+◌, ◌≤◌, ◌∷◌, [], ◌++◌, length, OnOk, IfErr, IfOk, IfSome};
 ghost use Rattle.bytes_defs.specs.Bytes.{part};
 ghost use Rattle.disk_defs.specs.Disk.{size_of, told_image};
 ghost use Rattle.disk_defs.specs.declared.Area.TheVariants.{Image};
+ghost use Rattle.image_defs.specs.Ask.{look};
+ghost use Rattle.image_defs.specs.Runs.{with_value};
+ghost use Rattle.image_reads.specs.Steps.{IsNoRefusal, KeptWithin, ReadsAs};
 ghost use Rattle.rx_store.specs.ReadFaults.{IsReadCounted};
 
 use range_defs::Range;
 use rx_store::{Area, ReadFault, Store};
+use std::alloc::Global;
 
 /// Reads the bytes of the image from a place on into the whole buffer, and keeps their range.
 pub fn look_at<S: Store>(
@@ -28,6 +32,7 @@ pub fn look_at<S: Store>(
     requires { at + length buf.old ≤ size_of Image (S.state store.old) }
     ensures bytes { OnOk result (IfSome (told_image (S.state store.old)) (λ image. buf.new ≡ part image at (length buf.old))) }
     ensures kept { OnOk result (looked.new.items ≡ looked.old.items ++ record { at = at; len = length buf.old } ∷ []) }
+    ensures calm { IfErr result IsNoRefusal }
     ensures same { S.state store.new ≡ S.state store.old }
     ensures counted { IsReadCounted Image result (S.faults store.old) (S.faults store.new) }
 {
@@ -37,4 +42,25 @@ pub fn look_at<S: Store>(
         len: buf.len() as u64,
     })?;
     Ok(())
+}
+
+/// The `len` bytes of the image from a place on, whose range is kept.
+pub fn bytes_at<S: Store>(
+    alloc: Global,
+    store: &mut S,
+    at: u64,
+    len: u64,
+    looked: &mut Vec<Range>,
+) -> Result<Vec<u8>, ReadFault>
+    requires { at + len ≤ size_of Image (S.state store.old) }
+    ensures reads { ReadsAs (told_image (S.state store.old)) (look at len) looked.old.items looked.new.items (with_value (λ bytes. bytes.items) result) }
+    ensures long { IfOk result (λ bytes. length bytes.items ≡ len) }
+    ensures kept_within { OnOk result (KeptWithin (at + len) looked.old.items looked.new.items) }
+    ensures calm { IfErr result IsNoRefusal }
+    ensures same { S.state store.new ≡ S.state store.old }
+    ensures counted { IsReadCounted Image result (S.faults store.old) (S.faults store.new) }
+{
+    let mut bytes = vec![in alloc; 0; len as usize]?;
+    look_at(store, at, &mut bytes, looked)?;
+    Ok(bytes)
 }

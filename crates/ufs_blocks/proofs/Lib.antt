@@ -1,0 +1,4 @@
+pub mod Putting
+pub mod SizeLaws
+pub mod WayLaws
+pub mod DirectLaws

@@ -4,3 +4,6 @@
 #![tactic(auto)]
 
 pub mod laid;
+mod sizes;
+mod step;
+mod walk;

@@ -1,0 +1,87 @@
+//! The sizes of blocks, and the blocks of a stream.
+ghost use Rattle.std.specs.Prelude.{◌≡◌, ◌+◌, ◌<◌, ◌≤◌, None};
+ghost use Rattle.ufs_inode_defs.specs.Layout.{pointer_len as pointer_len_by};
+ghost use Rattle.ufs_inode_defs.specs.Stream.{allocated_len as allocated_len_by, block_count as block_count_by, content_len as content_len_by, span as span_by};
+ghost use Rattle.ufs_inode_defs.specs.Superblock.{block_size as block_size_by, fragment_size as fragment_size_by, wrong_field};
+
+use ufs_inode_defs::superblock::Super;
+
+/// The bytes of a block.
+#[tactic(auto, using(crate::proofs::SizeLaws::block_bounds))]
+pub(crate) fn block_size(sup: &Super) -> u64
+    requires { wrong_field sup.now ≡ None }
+    ensures value { result ≡ block_size_by sup.now }
+    ensures some { 4096 ≤ result }
+    ensures most { result ≤ 65536 }
+{
+    sup.bsize.max(0) as u64
+}
+
+/// The bytes of a fragment.
+#[tactic(auto, using(crate::proofs::SizeLaws::fragment_bounds))]
+pub(crate) fn fragment_size(sup: &Super) -> u64
+    requires { wrong_field sup.now ≡ None }
+    ensures value { result ≡ fragment_size_by sup.now }
+    ensures some { 512 ≤ result }
+    ensures most { result ≤ 65536 }
+{
+    sup.fsize.max(0) as u64
+}
+
+/// The bytes of a pointer.
+pub(crate) fn pointer_len(sup: &Super) -> u64
+    ensures value { result ≡ pointer_len_by sup.now.version }
+    ensures most { result ≤ 8 }
+{
+    if sup.version == 1 { 4 } else { 8 }
+}
+
+/// The blocks that a pointer maps through so many levels of blocks of pointers.
+#[tactic(auto, using(crate::proofs::SizeLaws::span_bounds))]
+pub(crate) fn span(sup: &Super, level: u32) -> u64
+    requires sound { wrong_field sup.now ≡ None }
+    requires few { level ≤ 3 }
+    ensures value { result ≡ span_by sup.now level }
+    ensures most { result ≤ 4398046511104 }
+{
+    let pointers = u64::from(sup.nindir);
+    match level {
+        0 => 1,
+        1 => pointers,
+        2 => pointers * pointers,
+        _ => pointers * (pointers * pointers),
+    }
+}
+
+/// The blocks that so many bytes take up.
+pub(crate) fn block_count(sup: &Super, size: u64) -> u64
+    requires { wrong_field sup.now ≡ None }
+    ensures { result ≡ block_count_by sup.now size }
+{
+    size.div_ceil(block_size(sup))
+}
+
+/// The bytes of a stream of `size` bytes in one of its blocks.
+pub(crate) fn content_len(sup: &Super, size: u64, block: u64) -> u64
+    requires { wrong_field sup.now ≡ None }
+    ensures value { result ≡ content_len_by sup.now size block }
+    ensures most { result ≤ 65536 }
+{
+    let unit = block_size(sup);
+    unit.min(size.saturating_sub(block.saturating_mul(unit)))
+}
+
+/// The bytes that a block has on the disk: one of the first twelve has no more fragments than it needs.
+#[tactic(auto, using(crate::proofs::SizeLaws::allocated_fits))]
+pub(crate) fn allocated_len(sup: &Super, size: u64, block: u64) -> u64
+    requires { wrong_field sup.now ≡ None }
+    ensures value { result ≡ allocated_len_by sup.now size block }
+    ensures most { result ≤ 131072 }
+{
+    if block < 12 {
+        let unit = fragment_size(sup);
+        content_len(sup, size, block).div_ceil(unit) * unit
+    } else {
+        block_size(sup)
+    }
+}

@@ -1,0 +1,164 @@
+//! One step of a walk over the pointers of a stream.
+ghost use Rattle.std.specs.Prelude.{◌≡◌, ◌+◌, ◌*◌, ◌^◌, ◌<◌, ◌≤◌, ◌++◌, true, None, IfErr, IfOk, IfSome};
+ghost use Rattle.piece_defs.specs.Covering.{covers_from, is_contiguous as is_contiguous_by};
+ghost use Rattle.piece_defs.specs.Places.{AreWithin, IsWithin};
+ghost use Rattle.piece_defs.specs.Put.{put as put_by};
+ghost use Rattle.range_defs.specs.declared.TheConstants.{LONGEST_IMAGE};
+ghost use Rattle.rx_store.specs.Answers.{Answers};
+ghost use Rattle.ufs_blocks.specs.UnderWay.{IsUnderWay, HasGone, Settles, led_to};
+ghost use Rattle.ufs_inode_defs.specs.Blocks.{behind as behind_by, counted_runs as counted_runs_by, fragment_place as fragment_place_by, lies_within as lies_within_by, mapped_blocks, most_runs, runs_of as runs_of_by, with_block as with_block_by, with_hole as with_hole_by, with_visit as with_visit_by};
+ghost use Rattle.ufs_inode_defs.specs.Stream.{allocated_len as allocated_len_by, block_count as block_count_by};
+ghost use Rattle.ufs_inode_defs.specs.Superblock.{wrong_field};
+
+use crate::laid::Laid;
+use crate::sizes::{allocated_len, block_count, block_size, content_len, fragment_size};
+use range_defs::Range;
+use rx_ranges::{Piece, PieceKind};
+use rx_store::{Bound, ReadFault, Sort};
+use std::alloc::AllocError;
+use ufs_inode_defs::superblock::Super;
+
+/// The most runs of a volume.
+pub(crate) const MOST_RUNS: u64 = 4_000_000;
+
+/// Whether a piece goes on where another ends.
+fn is_contiguous(piece: &Piece, next: &Piece) -> bool
+    requires { IsWithin LONGEST_IMAGE piece.now.kind piece.now.at piece.now.len }
+    ensures { result ≡ is_contiguous_by piece.now next.now }
+{
+    match (piece.kind, next.kind) {
+        (PieceKind::Disk, PieceKind::Disk) => piece.at + piece.len == next.at,
+        (PieceKind::Zero, PieceKind::Zero) => true,
+        _ => false,
+    }
+}
+
+/// Puts a piece behind others: the last one grows where the new one goes on.
+fn put(pieces: &mut Vec<Piece>, piece: Piece) -> Result<(), AllocError>
+    requires within { AreWithin LONGEST_IMAGE pieces.old.items }
+    requires covered { covers_from 0 piece.from pieces.old.items ≡ true }
+    requires fits { piece.from + piece.len < 2 ^ 64 }
+    ensures { IfOk result (λ _. pieces.new.items ≡ put_by pieces.old.items piece) }
+{
+    let count = pieces.len();
+    if count > 0 && is_contiguous(&pieces[count - 1], &piece) {
+        pieces[count - 1].len += piece.len;
+        return Ok(());
+    }
+    pieces.push(piece)?;
+    Ok(())
+}
+
+/// A hole of some blocks.
+pub(crate) fn with_hole(sup: &Super, size: u64, blocks: u64, mut laid: Laid) -> Result<Laid, ReadFault>
+    requires sound { wrong_field sup.now ≡ None }
+    requires near { sup.now.at + sup.now.len ≤ LONGEST_IMAGE }
+    requires short { size ≤ 2 ^ 62 }
+    requires few { blocks ≤ 4398046511104 }
+    requires way { IsUnderWay sup.now size laid }
+    requires inside { laid.block < block_count_by sup.now size }
+    ensures value { IfOk result (λ after. after ≡ with_hole_by sup.now size blocks laid) }
+    ensures lean { IfErr result (λ fault. fault ≡ ReadFault.NoMemory) }
+{
+    let unit = block_size(sup);
+    let from = laid.block * unit;
+    let piece = Piece {
+        from,
+        len: (blocks * unit).min(size - from),
+        kind: PieceKind::Zero,
+        at: 0,
+    };
+    put(&mut laid.pieces, piece)?;
+    laid.block += blocks;
+    Ok(laid)
+}
+
+/// Keeps what a block has behind its content.
+fn push_behind(slack: &mut Vec<Range>, at: u64, len: u64, allocated: u64) -> Result<(), AllocError>
+    requires { at + allocated < 2 ^ 64 }
+    ensures { IfOk result (λ _. slack.new.items ≡ slack.old.items ++ behind_by at len allocated) }
+{
+    if len < allocated {
+        slack.push(Range {
+            at: at + len,
+            len: allocated - len,
+        })?;
+    }
+    Ok(())
+}
+
+/// A block that stands at a place.
+pub(crate) fn with_block(sup: &Super, size: u64, at: u64, mut laid: Laid) -> Result<Laid, ReadFault>
+    requires sound { wrong_field sup.now ≡ None }
+    requires near { sup.now.at + sup.now.len ≤ LONGEST_IMAGE }
+    requires short { size ≤ 2 ^ 62 }
+    requires stands { at + allocated_len_by sup.now size laid.block ≤ sup.now.at + sup.now.len }
+    requires way { IsUnderWay sup.now size laid }
+    requires inside { laid.block < block_count_by sup.now size }
+    ensures value { IfOk result (λ after. after ≡ with_block_by sup.now size at laid) }
+    ensures lean { IfErr result (λ fault. fault ≡ ReadFault.NoMemory) }
+{
+    let len = content_len(sup, size, laid.block);
+    let piece = Piece {
+        from: laid.block * block_size(sup),
+        len,
+        kind: PieceKind::Disk,
+        at,
+    };
+    put(&mut laid.pieces, piece)?;
+    push_behind(
+        &mut laid.slack,
+        at,
+        len,
+        allocated_len(sup, size, laid.block),
+    )?;
+    laid.block += 1;
+    Ok(laid)
+}
+
+/// What was found, where its runs are within their limit.
+pub(crate) fn counted_runs(laid: Laid) -> Result<Laid, ReadFault>
+    requires { laid.before ≤ most_runs }
+    ensures settles { Settles result (counted_runs_by laid) }
+    ensures is { IfOk result (λ after. after ≡ laid) }
+    ensures few { IfOk result (λ after. runs_of_by after ≤ most_runs) }
+    ensures calm { IfErr result (λ fault. fault ≡ ReadFault.Limit Bound.Runs most_runs) }
+{
+    let runs = (laid.before as u128) + (laid.pieces.len() as u128) + u128::from(laid.visited);
+    if runs <= u128::from(MOST_RUNS) {
+        Ok(laid)
+    } else {
+        Err(ReadFault::Limit(Bound::Runs, MOST_RUNS))
+    }
+}
+
+/// A block of pointers that is visited.
+pub(crate) fn with_visit(mut laid: Laid) -> Result<Laid, ReadFault>
+    requires { runs_of_by laid ≤ most_runs }
+    ensures settles { Settles result (counted_runs_by (with_visit_by laid)) }
+    ensures is { IfOk result (λ after. after ≡ with_visit_by laid) }
+    ensures few { IfOk result (λ after. runs_of_by after ≤ most_runs) }
+    ensures calm { IfErr result (λ fault. fault ≡ ReadFault.Limit Bound.Runs most_runs) }
+{
+    laid.visited += 1;
+    counted_runs(laid)
+}
+
+/// Where a pointer at `at` leads: nowhere, as 0 stands for a hole, or to a place from which on `len` bytes lie in the volume.
+pub(crate) fn led(sup: &Super, at: u64, value: i64, len: u64) -> Result<Option<u64>, ReadFault>
+    requires sound { wrong_field sup.now ≡ None }
+    requires near { sup.now.at + sup.now.len ≤ LONGEST_IMAGE }
+    ensures leads { Answers result (led_to sup.now (record { at = at; value = value }) len) }
+    ensures within { IfOk result (λ place. IfSome place (λ at. at + len ≤ sup.now.at + sup.now.len)) }
+    ensures calm { IfErr result (λ fault. fault ≡ ReadFault.Damaged Sort.BlockPointer at) }
+{
+    if value == 0 {
+        return Ok(None);
+    }
+    let fragment = value.max(0) as u64;
+    let place = u128::from(fragment) * u128::from(fragment_size(sup));
+    if value < 0 || place + u128::from(len) > u128::from(sup.len) {
+        return Err(ReadFault::Damaged(Sort::BlockPointer, at));
+    }
+    Ok(Some(sup.at + place as u64))
+}
