@@ -31,36 +31,36 @@ led_faults sup pointer len hole there (Damaged sort place) answers = (is_led sup
 led_faults sup pointer len hole there (Unsupported what place) answers = (is_led sup pointer len hole there pointer.at pointer.value).2 (refusal.Unsupported what place) answers
 led_faults sup pointer len hole there (Limit bound number) answers = (is_led sup pointer len hole there pointer.at pointer.value).2 (refusal.Limit bound number) answers
 
-module _ (sup : Super) (size : ℕ) (laid : Laid) (at : ℕ) (value : ℤ) (count : ℕ) (is : count ≡ block_count sup size) where
-  pub direct_past : count ≤ laid.block → mapped_blocks 0 sup size laid (record { at = at; value = value }) ≡ Done laid
+module _ (sup : Super) (size : ℕ) (laid : Laid) (pointer : Pointer) (count : ℕ) (is : count ≡ block_count sup size) where
+  pub direct_past : count ≤ laid.block → mapped_blocks 0 sup size laid pointer ≡ Done laid
   unfolding mapped_blocks
   direct_past past = let all : nat_le (block_count sup size) laid.block ≡ true = le-leb (block_count sup size) laid.block (omega (arith, is, past)) in rw all refl
 
   module _ (on : laid.block < count) (len : ℕ) (same : len ≡ allocated_len sup size laid.block) where
-    direct_on : mapped_blocks 0 sup size laid (record { at = at; value = value }) ≡ led sup (record { at = at; value = value }) len (counted_runs (with_hole sup size 1 laid)) (λ place. counted_runs (with_block sup size place laid))
+    direct_on : mapped_blocks 0 sup size laid pointer ≡ led sup pointer len (counted_runs (with_hole sup size 1 laid)) (λ place. counted_runs (with_block sup size place laid))
     unfolding mapped_blocks
     direct_on =
         let some : nat_le (block_count sup size) laid.block ≡ false = lt-leb (block_count sup size) laid.block (omega (arith, is, on)) in
         rw (some, same) refl
 
     pub direct_fault : (result : Result Laid ReadFault) (fault : ReadFault) → IsErr result → IsErrAnd result (λ other. other ≡ fault)
-        → (let found : Result (Option ℕ) ReadFault = Err fault in Answers found (led_to sup (record { at = at; value = value }) len)) → Settles result (mapped_blocks 0 sup size laid (record { at = at; value = value }))
+        → (let found : Result (Option ℕ) ReadFault = Err fault in Answers found (led_to sup pointer len)) → Settles result (mapped_blocks 0 sup size laid pointer)
     direct_fault result fault fails passed answers =
         settles_as result _ _ direct_on
-        (fault_settles result fault _ fails passed (led_faults sup (record { at = at; value = value }) len (counted_runs (with_hole sup size 1 laid)) (λ place. counted_runs (with_block sup size place laid)) fault answers))
+        (fault_settles result fault _ fails passed (led_faults sup pointer len (counted_runs (with_hole sup size 1 laid)) (λ place. counted_runs (with_block sup size place laid)) fault answers))
 
-    pub direct_hole : (result : Result Laid ReadFault) (found : Option ℕ) (after : Laid) → found ≡ None → led_to sup (record { at = at; value = value }) len ≡ Ok found → after ≡ with_hole sup size 1 laid → Settles result (counted_runs after)
-        → Settles result (mapped_blocks 0 sup size laid (record { at = at; value = value }))
+    pub direct_hole : (result : Result Laid ReadFault) (found : Option ℕ) (after : Laid) → found ≡ None → led_to sup pointer len ≡ Ok found → after ≡ with_hole sup size 1 laid → Settles result (counted_runs after)
+        → Settles result (mapped_blocks 0 sup size laid pointer)
     direct_hole result found after none leads is_after settles =
         settles_as result _ _
-        (direct_on ∙ (is_led sup (record { at = at; value = value }) len (counted_runs (with_hole sup size 1 laid)) (λ place. counted_runs (with_block sup size place laid)) at value).0 (leads ∙ ap Ok none) ∙ ap counted_runs (sym is_after))
+        (direct_on ∙ (is_led sup pointer len (counted_runs (with_hole sup size 1 laid)) (λ place. counted_runs (with_block sup size place laid)) pointer.at pointer.value).0 (leads ∙ ap Ok none) ∙ ap counted_runs (sym is_after))
         settles
 
-    pub direct_there : (result : Result Laid ReadFault) (found : Option ℕ) (place : ℕ) (after : Laid) → found ≡ Some place → led_to sup (record { at = at; value = value }) len ≡ Ok found → after ≡ with_block sup size place laid
-        → Settles result (counted_runs after) → Settles result (mapped_blocks 0 sup size laid (record { at = at; value = value }))
+    pub direct_there : (result : Result Laid ReadFault) (found : Option ℕ) (place : ℕ) (after : Laid) → found ≡ Some place → led_to sup pointer len ≡ Ok found → after ≡ with_block sup size place laid
+        → Settles result (counted_runs after) → Settles result (mapped_blocks 0 sup size laid pointer)
     direct_there result found place after some leads is_after settles =
         settles_as result _ _
-        (direct_on ∙ (is_led sup (record { at = at; value = value }) len (counted_runs (with_hole sup size 1 laid)) (λ place. counted_runs (with_block sup size place laid)) at value).1 place (leads ∙ ap Ok some) ∙ ap counted_runs (sym is_after))
+        (direct_on ∙ (is_led sup pointer len (counted_runs (with_hole sup size 1 laid)) (λ place. counted_runs (with_block sup size place laid)) pointer.at pointer.value).1 place (leads ∙ ap Ok some) ∙ ap counted_runs (sym is_after))
         settles
 
 -- ---- what was found is under way again

@@ -2,3 +2,4 @@ pub mod Putting
 pub mod SizeLaws
 pub mod WayLaws
 pub mod DirectLaws
+pub mod MappedLaws

@@ -1,6 +1,5 @@
 -- A walk over the pointers of a stream that is under way: what holds of it over every store.
 use Rattle.std.specs.Prelude.{◌≡◌, ◌⊎◌, ℕ, zero, suc, ◌+◌, ◌*◌, ◌≤◌, min, ℤ, pos, negsuc, true, All, if◌then◌else◌, Option, Some, None, Result, Ok, Err, List}
-use Rattle.range_defs.specs.declared.Range.{Range}
 use Rattle.image_defs.specs.Ask.{Ask, Done, Stop}
 use Rattle.piece_defs.specs.Covering.{covers_from}
 use Rattle.piece_defs.specs.Places.{AreWithin}
@@ -48,7 +47,3 @@ Settles (Err NotThis) program = program ≡ Stop refusal.NotThis
 Settles (Err (Damaged sort place)) program = program ≡ Stop (refusal.Damaged sort place)
 Settles (Err (Unsupported what place)) program = program ≡ Stop (refusal.Unsupported what place)
 Settles (Err (Limit bound number)) program = program ≡ Stop (refusal.Limit bound number)
-
--- the ranges that are kept now end in a volume, if those of before did
-abbrev pub KeptWithin : ℕ → List Range → List Range → Type 0
-KeptWithin last before after = (end : ℕ) → last ≤ end → AreRangesWithin end before → AreRangesWithin end after

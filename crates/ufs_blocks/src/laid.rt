@@ -4,6 +4,22 @@ use rx_ranges::Piece;
 use rx_tree::Part;
 use std::marker::Model;
 
+/// A pointer: the place in the image where it stands, and the fragment that it names, counted from the volume's first byte; 0 is a
+/// hole.
+#[derive(Debug, Drop)]
+pub struct Pointer {
+    pub at: u64,
+    pub value: i64,
+}
+
+impl Model for Pointer {
+    ghost use Rattle.ufs_inode_defs.specs.Stream.{Pointer};
+
+    ghost Value = { Pointer };
+
+    ghost view = { λ p. record { at = p.at; value = p.value } };
+}
+
 /// What was found of a stream so far: the blocks that were passed, their pieces, the slack, and the blocks of pointers that were
 /// visited; and the runs that were counted before.
 #[derive(Debug, Drop)]

@@ -10,7 +10,7 @@ ghost use Rattle.ufs_inode_defs.specs.Blocks.{behind as behind_by, counted_runs 
 ghost use Rattle.ufs_inode_defs.specs.Stream.{allocated_len as allocated_len_by, block_count as block_count_by};
 ghost use Rattle.ufs_inode_defs.specs.Superblock.{wrong_field};
 
-use crate::laid::Laid;
+use crate::laid::{Laid, Pointer};
 use crate::sizes::{allocated_len, block_count, block_size, content_len, fragment_size};
 use range_defs::Range;
 use rx_ranges::{Piece, PieceKind};
@@ -144,21 +144,21 @@ pub(crate) fn with_visit(mut laid: Laid) -> Result<Laid, ReadFault>
     counted_runs(laid)
 }
 
-/// Where a pointer at `at` leads: nowhere, as 0 stands for a hole, or to a place from which on `len` bytes lie in the volume.
-pub(crate) fn led(sup: &Super, at: u64, value: i64, len: u64) -> Result<Option<u64>, ReadFault>
+/// Where a pointer leads: nowhere, as 0 stands for a hole, or to a place from which on `len` bytes lie in the volume.
+pub(crate) fn led(sup: &Super, pointer: &Pointer, len: u64) -> Result<Option<u64>, ReadFault>
     requires sound { wrong_field sup.now ≡ None }
     requires near { sup.now.at + sup.now.len ≤ LONGEST_IMAGE }
-    ensures leads { Answers result (led_to sup.now (record { at = at; value = value }) len) }
+    ensures leads { Answers result (led_to sup.now pointer.now len) }
     ensures within { IfOk result (λ place. IfSome place (λ at. at + len ≤ sup.now.at + sup.now.len)) }
-    ensures calm { IfErr result (λ fault. fault ≡ ReadFault.Damaged Sort.BlockPointer at) }
+    ensures calm { IfErr result (λ fault. fault ≡ ReadFault.Damaged Sort.BlockPointer pointer.now.at) }
 {
-    if value == 0 {
+    if pointer.value == 0 {
         return Ok(None);
     }
-    let fragment = value.max(0) as u64;
+    let fragment = pointer.value.max(0) as u64;
     let place = u128::from(fragment) * u128::from(fragment_size(sup));
-    if value < 0 || place + u128::from(len) > u128::from(sup.len) {
-        return Err(ReadFault::Damaged(Sort::BlockPointer, at));
+    if pointer.value < 0 || place + u128::from(len) > u128::from(sup.len) {
+        return Err(ReadFault::Damaged(Sort::BlockPointer, pointer.at));
     }
     Ok(Some(sup.at + place as u64))
 }
