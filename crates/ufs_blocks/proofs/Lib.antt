@@ -3,3 +3,4 @@ pub mod SizeLaws
 pub mod WayLaws
 pub mod DirectLaws
 pub mod MappedLaws
+pub mod StreamLaws

@@ -46,7 +46,7 @@ settled_reads told program kept (Err (Limit bound number)) settles =
     comes_stop told program kept (refusal.Limit bound number) kept kept (comes_to told program kept program (Stop (refusal.Limit bound number)) kept settles (begins told program kept))
 
 -- a refusal of what comes first is one of the whole
-settles_first : {X Y : Type 0} (fault : ReadFault) (step : Ask Refusal X) (next : X → Ask Refusal Y) → (let first : Result X ReadFault = Err fault in Settles first step) → (let whole : Result Y ReadFault = Err fault in Settles whole (step >>= next))
+pub settles_first : {X Y : Type 0} (fault : ReadFault) (step : Ask Refusal X) (next : X → Ask Refusal Y) → (let first : Result X ReadFault = Err fault in Settles first step) → (let whole : Result Y ReadFault = Err fault in Settles whole (step >>= next))
 settles_first Device step next settles = tt
 settles_first NoMemory step next settles = tt
 settles_first NotThis step next settles = ap (λ ask. ask >>= next) settles
@@ -230,4 +230,6 @@ visit_way sup size laid visited way is few =
       plain = way.plain;
       within = way.within;
       slack_within = way.slack_within;
+      ended = way.ended;
+      kept = way.kept;
     })

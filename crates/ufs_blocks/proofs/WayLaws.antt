@@ -2,11 +2,12 @@
 use Rattle.std.specs.Prelude.{◌≡◌, ℕ, zero, suc, ◌+◌, ◌-◌, ◌*◌, ◌<◌, ◌≤◌, min, ℤ, pos, negsuc, Bool, true, false, nat_le, nat_lt, if◌then◌else◌, Option, Some, None, Result, Ok, Err, List, [], ◌∷◌, ◌++◌, length, refl}
 use Rattle.std.specs.Int.{div_ceil}
 use Rattle.std.proofs.Common.{arith, ap, sym, ◌∙◌, subst, inl, inr}
-use Rattle.std.proofs.lemmas.Bool.{lt-leb, le-leb, ltb-true}
+use Rattle.std.proofs.lemmas.Bool.{le-ltb, ltb-true}
 use Rattle.std.proofs.lemmas.Grind.{div_ceil_times}
 use Rattle.std.proofs.lemmas.List.Elements.{All-cons, All-nil, All-append}
 use Rattle.std.proofs.Math.Nat.{mul-le-mul_right}
 use Rattle.range_defs.specs.declared.Range.{Range}
+use Rattle.range_defs.specs.Places.{IsRangeList}
 use Rattle.image_defs.specs.Ask.{Ask, Done, Stop, check, ◌>>◌}
 use Rattle.piece_defs.specs.Covering.{covers_from}
 use Rattle.rx_tree.specs.Within.{AreRangesWithin}
@@ -21,6 +22,7 @@ use Rattle.ufs_inode_defs.specs.Stream.{Pointer, block_count, content_len, alloc
 use Rattle.ufs_inode_defs.specs.Blocks.{Laid, behind, runs_of, most_runs, with_hole, with_block, counted_runs, mapped_blocks, led, lies_within, fragment_place}
 use Rattle.ufs_inode_defs.specs.declared.superblock.Super.{Super}
 use Rattle.ufs_inode_defs.proofs.BlockSteps.{block_begins}
+use Rattle.ufs_inode_defs.proofs.SoundSuper.{is_sound, has_pointers}
 use Rattle.ufs_blocks.specs.UnderWay.{IsUnderWay, Settles, led_to}
 use Rattle.ufs_blocks.proofs.SizeLaws.{block_bounds, fragment_bounds}
 use Rattle.ufs_blocks.proofs.Putting.{put_covers, put_within, put_plain}
@@ -43,6 +45,8 @@ module _ (sup : Super) (size : ℕ) (laid : Laid) (sound : wrong_field sup ≡ N
         plain = put_plain laid.pieces _ way.plain refl;
         within = put_within (sup.at + sup.len) laid.pieces _ way.within tt;
         slack_within = way.slack_within;
+        ended = λ ahead. way.ended inside;
+        kept = way.kept;
       }
 
   content_fits : content_len sup size laid.block ≤ allocated_len sup size laid.block
@@ -59,19 +63,46 @@ module _ (sup : Super) (size : ℕ) (laid : Laid) (sound : wrong_field sup ≡ N
       by_test true is = All-cons (λ (range : Range). range.at + range.len ≤ end) (record { at = at + len; len = allocated - len }) [] (let more : len < allocated = ltb-true len allocated is in omega (arith, more, fits)) (All-nil (λ (range : Range). range.at + range.len ≤ end))
       by_test false is = All-nil (λ (range : Range). range.at + range.len ≤ end)
 
+  -- a block in front of the last has all its bytes
+  whole_block : laid.block + 1 < block_count sup size → allocated_len sup size laid.block ≡ content_len sup size laid.block
+  whole_block ahead =
+      let unit : ℕ = block_size sup in
+      let has = has_pointers sup (is_sound sup sound) in
+      let next : (laid.block + 1) * unit < size = block_begins size unit (laid.block + 1) has.some_bytes ahead in
+      let on : (laid.block + 1) * unit ≡ laid.block * unit + unit = omega arith in
+      let full : content_len sup size laid.block ≡ unit = omega (arith, next, on) in
+      by_test (nat_lt laid.block 12) full has.full
+    where
+      by_test : (direct : Bool) → content_len sup size laid.block ≡ block_size sup → div_ceil (block_size sup) (fragment_size sup) * fragment_size sup ≡ block_size sup
+          → (if direct then div_ceil (content_len sup size laid.block) (fragment_size sup) * fragment_size sup else block_size sup) ≡ content_len sup size laid.block
+      by_test true full whole = ap (λ len. div_ceil len (fragment_size sup) * fragment_size sup) full ∙ whole ∙ sym full
+      by_test false full whole = sym full
+
+  nothing_behind : (at len allocated : ℕ) → allocated ≡ len → behind at len allocated ≡ []
+  nothing_behind at len allocated same = let is : nat_lt len allocated ≡ false = le-ltb len allocated (omega (arith, same)) in rw is refl
+
+  one_range : (at len allocated : ℕ) → IsRangeList (behind at len allocated)
+  one_range at len allocated = by_test (nat_lt len allocated) refl
+    where
+      by_test : (more : Bool) → nat_lt len allocated ≡ more → IsRangeList (if more then record { at = at + len; len = allocated - len } ∷ [] else [])
+      by_test true is = (let more : len < allocated = ltb-true len allocated is in omega (arith, more), tt, tt)
+      by_test false is = tt
+
   pub block_way : (at : ℕ) → at + allocated_len sup size laid.block ≤ sup.at + sup.len → runs_of (with_block sup size at laid) ≤ most_runs → IsUnderWay sup size (with_block sup size at laid)
   block_way at stands few =
       let unit : ℕ = block_size sup in
       let some : 4096 ≤ unit = (block_bounds sup sound).0 in
       let from : laid.block * unit < size = begins in
-      let behind : (laid.block + 1) * unit ≡ laid.block * unit + unit = omega arith in
+      let on : (laid.block + 1) * unit ≡ laid.block * unit + unit = omega arith in
       let P : ℕ → Type 0 = λ end. covers_from 0 end (with_block sup size at laid).pieces ≡ true in
       record {
         few = few;
-        covered = subst P (omega (arith, from, behind)) (put_covers (min (laid.block * unit) size) laid.pieces _ way.covered (omega (arith, from)) (omega (arith, from, some)));
+        covered = subst P (omega (arith, from, on)) (put_covers (min (laid.block * unit) size) laid.pieces _ way.covered (omega (arith, from)) (omega (arith, from, some)));
         plain = put_plain laid.pieces _ way.plain tt;
         within = put_within (sup.at + sup.len) laid.pieces _ way.within (let fits = content_fits in omega (arith, fits, stands));
         slack_within = All-append (λ (range : Range). range.at + range.len ≤ sup.at + sup.len) laid.slack _ way.slack_within (slack_of_block (sup.at + sup.len) at (content_len sup size laid.block) (allocated_len sup size laid.block) stands);
+        ended = λ ahead. ap (λ slack. slack ++ behind at (content_len sup size laid.block) (allocated_len sup size laid.block)) (way.ended inside) ∙ nothing_behind at (content_len sup size laid.block) (allocated_len sup size laid.block) (whole_block ahead);
+        kept = subst IsRangeList (sym (ap (λ slack. slack ++ behind at (content_len sup size laid.block) (allocated_len sup size laid.block)) (way.ended inside))) (one_range at (content_len sup size laid.block) (allocated_len sup size laid.block));
       }
 
 -- ---- what a step says of its program

@@ -1,5 +1,6 @@
 -- A walk over the pointers of a stream that is under way: what holds of it over every store.
-use Rattle.std.specs.Prelude.{◌≡◌, ◌⊎◌, ℕ, zero, suc, ◌+◌, ◌*◌, ◌≤◌, min, ℤ, pos, negsuc, true, All, if◌then◌else◌, Option, Some, None, Result, Ok, Err, List}
+use Rattle.std.specs.Prelude.{◌≡◌, ◌⊎◌, ℕ, zero, suc, ◌+◌, ◌*◌, ◌<◌, ◌≤◌, min, ℤ, pos, negsuc, true, All, if◌then◌else◌, Option, Some, None, Result, Ok, Err, List, []}
+use Rattle.range_defs.specs.Places.{IsRangeList}
 use Rattle.image_defs.specs.Ask.{Ask, Done, Stop}
 use Rattle.piece_defs.specs.Covering.{covers_from}
 use Rattle.piece_defs.specs.Places.{AreWithin}
@@ -15,13 +16,16 @@ use Rattle.ufs_inode_defs.specs.Stream.{Pointer, block_count}
 use Rattle.ufs_inode_defs.specs.Blocks.{Laid, runs_of, most_runs, fragment_place, lies_within}
 use Rattle.ufs_inode_defs.specs.declared.superblock.Super.{Super}
 
--- the runs are within their limit; the pieces cover the blocks that were passed, and they and the slack lie in the volume
+-- the runs are within their limit; the pieces cover the blocks that were passed; they and the slack lie in the volume, and the
+-- slack is one range at most, behind the last block
 pub record IsUnderWay (sup : Super) (size : ℕ) (laid : Laid) : Type 0 where
   pub few : runs_of laid ≤ most_runs
   pub covered : covers_from 0 (min (laid.block * block_size sup) size) laid.pieces ≡ true
   pub plain : ArePlain laid.pieces
   pub within : AreWithin (sup.at + sup.len) laid.pieces
   pub slack_within : AreRangesWithin (sup.at + sup.len) laid.slack
+  pub ended : laid.block < block_count sup size → laid.slack ≡ []
+  pub kept : IsRangeList laid.slack
 
 -- a walk went on by so many blocks, or came to the end
 abbrev pub HasGone : Super → ℕ → ℕ → Laid → Laid → Type 0

@@ -6,4 +6,5 @@
 pub mod laid;
 mod sizes;
 mod step;
+pub mod streams;
 mod walk;
