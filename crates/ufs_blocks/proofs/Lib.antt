@@ -4,3 +4,4 @@ pub mod WayLaws
 pub mod DirectLaws
 pub mod MappedLaws
 pub mod StreamLaws
+pub mod PartLaws

@@ -4,6 +4,7 @@
 #![tactic(auto)]
 
 pub mod laid;
+mod parts;
 mod sizes;
 mod step;
 pub mod streams;
