@@ -1,0 +1,4 @@
+pub mod Bounds
+pub mod Sound
+pub mod Steps
+pub mod Tests

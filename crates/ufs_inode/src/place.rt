@@ -1,0 +1,67 @@
+//! Where inodes stand.
+ghost use Rattle.std.specs.Prelude.{◌≡◌, ◌+◌, ◌-◌, ◌*◌, ◌<◌, bit_and, None};
+ghost use Rattle.ufs_inode_defs.specs.Superblock.{wrong_field, group_start as group_start_by, inode_place as inode_place_by, has_inode as has_inode_by};
+
+use ufs_inode_defs::superblock::Super;
+use ufs_super::{fragment_size, inode_len, non_negative};
+
+/// The product of two counts.
+fn product(a: u32, b: u32) -> u64
+    ensures { result ≡ a * b }
+{
+    u64::from(a) * u64::from(b)
+}
+
+/// The bytes of so many units.
+fn scaled(count: u128, unit: u32) -> u128
+    requires { count < 73786976294838206464 }
+    ensures bytes { result ≡ count * unit }
+    ensures bound { result < 316912650057057350374175801344 }
+{
+    count * u128::from(unit)
+}
+
+/// The bits of a group's number that move it round in UFS1: those outside a mask.
+fn moving_bits(group: u32, mask: u32) -> u32
+    ensures { result ≡ bit_and group (4294967295 - mask) }
+{
+    group & !mask
+}
+
+/// The fragment at which a group begins: the macro `cgstart`. The groups of UFS1 are moved round.
+fn group_start(sup: &Super, group: u32) -> u128
+    ensures start { result ≡ group_start_by sup.now group }
+    ensures bound { result < 36893488147419103232 }
+{
+    let start = product(non_negative(sup.fpg), group);
+    if sup.version != 1 {
+        return u128::from(start);
+    }
+    let bits = moving_bits(group, sup.old_cgmask);
+    u128::from(start) + u128::from(product(non_negative(sup.old_cgoffset), bits))
+}
+
+/// The place of an inode in the image: the macros `ino_to_fsba` and `ino_to_fsbo`. It may pass 64 bits.
+#[tactic(auto, unfolding(ufs_inode_defs::specs::Superblock::inode_place))]
+pub(crate) fn inode_place(sup: &Super, number: u32) -> u128
+    requires sound { wrong_field sup.now ≡ None }
+    ensures place { result ≡ inode_place_by sup.now number }
+    ensures bound { result < 1267650600228229401496703205376 }
+{
+    let group = group_start(sup, number / sup.ipg);
+    let blocks = product(non_negative(sup.frag), number % sup.ipg / sup.inopb);
+    let fragment = group + u128::from(non_negative(sup.iblkno)) + u128::from(blocks);
+    let within = product(inode_len(sup.version), number % sup.inopb);
+    u128::from(sup.at) + scaled(fragment, fragment_size(sup)) + u128::from(within)
+}
+
+/// Whether the volume has an inode of a number, and it lies in the volume.
+#[tactic(auto, unfolding(ufs_inode_defs::specs::Superblock::has_inode))]
+pub(crate) fn has_inode(sup: &Super, number: u32) -> bool
+    requires sound { wrong_field sup.now ≡ None }
+    ensures { result ≡ has_inode_by sup.now number }
+{
+    let ends = inode_place(sup, number) + u128::from(inode_len(sup.version));
+    u64::from(number) < u64::from(sup.ncg) * u64::from(sup.ipg)
+        && ends <= u128::from(sup.at) + u128::from(sup.len)
+}
