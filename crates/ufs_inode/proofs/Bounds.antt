@@ -3,7 +3,7 @@ use Rattle.std.specs.Prelude.{ℕ, ◌+◌, ◌*◌, ◌^◌, ◌<◌, ◌≤◌
 use Rattle.std.proofs.Common.{arith}
 use Rattle.std.proofs.lemmas.Nat.{mul-le}
 
-pub scaled_bound : (count unit : ℕ) → count < 73786976294838206464 → unit < 2 ^ 32 → count * unit < 316912650057057350374175801344
+pub scaled_bound : (count unit : ℕ) → count < 2 ^ 66 → unit < 2 ^ 32 → count * unit < 2 ^ 98
 scaled_bound count unit few small =
     let most = mul-le count unit 73786976294838206463 4294967295 (omega (arith, few)) (omega (arith, small)) in
     omega (arith, most)

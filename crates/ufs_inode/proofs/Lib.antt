@@ -1,4 +1,4 @@
 pub mod Bounds
+pub mod InodeTests
 pub mod Sound
 pub mod Steps
-pub mod Tests

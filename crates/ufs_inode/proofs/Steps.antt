@@ -1,5 +1,5 @@
 -- What the inode of a number gives.
-use Rattle.std.specs.Prelude.{◌≡◌, ℕ, ◌+◌, ◌*◌, ◌^◌, ◌<◌, ◌≤◌, ◌==◌, ◌&&◌, Bool, true, false, if◌then◌else◌, nat_lt, nat_le, Option, Some, None, IfSome, IfOk, Result, Ok, Err, List, [], ◌∷◌, ◌++◌, refl}
+use Rattle.std.specs.Prelude.{◌≡◌, ℕ, ◌+◌, ◌*◌, ◌^◌, ◌<◌, ◌≤◌, ◌==◌, ◌&&◌, Bool, true, false, if◌then◌else◌, nat_lt, Option, Some, None, IfSome, Result, Ok, Err, List, [], ◌∷◌, ◌++◌}
 use Rattle.std.proofs.Common.{ap, sym, subst, ◌∙◌, arith}
 use Rattle.std.proofs.lemmas.Bool.{leb-true}
 use Rattle.range_defs.specs.declared.Range.{Range}
@@ -17,7 +17,7 @@ use Rattle.ufs_inode_defs.specs.Superblock.{inode_place, has_inode}
 use Rattle.ufs_inode_defs.specs.Inode.{inode_of, tested_inode, inode_at, inode_named}
 use Rattle.ufs_inode_defs.specs.declared.superblock.Super.{Super}
 use Rattle.ufs_inode_defs.specs.declared.inode.Inode.{Inode}
-use Rattle.ufs_inode.proofs.Tests.{tests_look_nowhere}
+use Rattle.ufs_inode.proofs.InodeTests.{tests_look_nowhere}
 
 -- ---- no inode of the number
 

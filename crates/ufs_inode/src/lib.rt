@@ -17,3 +17,6 @@ mod tested;
 
 pub use read::{look_at_inode, read_inode};
 pub use ufs_inode_defs::inode::Inode;
+
+#[cfg(test)]
+mod tests;

@@ -1,5 +1,5 @@
 //! Where inodes stand.
-ghost use Rattle.std.specs.Prelude.{◌≡◌, ◌+◌, ◌-◌, ◌*◌, ◌<◌, bit_and, None};
+ghost use Rattle.std.specs.Prelude.{◌≡◌, ◌+◌, ◌-◌, ◌*◌, ◌^◌, ◌<◌, bit_and, None};
 ghost use Rattle.ufs_inode_defs.specs.Superblock.{wrong_field, group_start as group_start_by, inode_place as inode_place_by, has_inode as has_inode_by};
 
 use ufs_inode_defs::superblock::Super;
@@ -14,9 +14,9 @@ fn product(a: u32, b: u32) -> u64
 
 /// The bytes of so many units.
 fn scaled(count: u128, unit: u32) -> u128
-    requires { count < 73786976294838206464 }
+    requires { count < 2 ^ 66 }
     ensures bytes { result ≡ count * unit }
-    ensures bound { result < 316912650057057350374175801344 }
+    ensures bound { result < 2 ^ 98 }
 {
     count * u128::from(unit)
 }
@@ -31,7 +31,7 @@ fn moving_bits(group: u32, mask: u32) -> u32
 /// The fragment at which a group begins: the macro `cgstart`. The groups of UFS1 are moved round.
 fn group_start(sup: &Super, group: u32) -> u128
     ensures start { result ≡ group_start_by sup.now group }
-    ensures bound { result < 36893488147419103232 }
+    ensures bound { result < 2 ^ 65 }
 {
     let start = product(non_negative(sup.fpg), group);
     if sup.version != 1 {
@@ -46,7 +46,7 @@ fn group_start(sup: &Super, group: u32) -> u128
 pub(crate) fn inode_place(sup: &Super, number: u32) -> u128
     requires sound { wrong_field sup.now ≡ None }
     ensures place { result ≡ inode_place_by sup.now number }
-    ensures bound { result < 1267650600228229401496703205376 }
+    ensures bound { result < 2 ^ 100 }
 {
     let group = group_start(sup, number / sup.ipg);
     let blocks = product(non_negative(sup.frag), number % sup.ipg / sup.inopb);

@@ -1,24 +1,20 @@
 -- The ranges at which one looks for a superblock.
-use Rattle.std.specs.Prelude.{◌≡◌, ℕ, ◌+◌, ◌-◌, ◌≤◌, ◌==◌, min, Bool, true, false, if◌then◌else◌, Option, Some, None, IfSome, Result, Ok, Err, List, [], ◌∷◌, ◌++◌, refl}
-use Rattle.std.specs.List.{All}
+use Rattle.std.specs.Prelude.{◌≡◌, ℕ, ◌+◌, ◌-◌, ◌≤◌, ◌==◌, min, Bool, true, false, if◌then◌else◌, Option, Some, None, IfSome, Result, Ok, List, [], ◌∷◌, ◌++◌}
 use Rattle.std.proofs.Common.{ap, sym, subst, ◌∙◌, arith}
-use Rattle.std.proofs.lemmas.List.Elements.{All-append, All-cons, All-nil, All-same}
 use Rattle.range_defs.specs.declared.Range.{Range}
 use Rattle.bytes_defs.specs.Bytes.{part}
 use Rattle.bytes_defs.specs.declared.order.Order.{Order}
 use Rattle.bytes_defs.specs.declared.order.Order.TheVariants.{Little}
-use Rattle.image_defs.specs.Ask.{Ask, Stop, result_of, visits}
+use Rattle.image_defs.specs.Ask.{Stop, result_of, visits}
 use Rattle.image_defs.proofs.Runs.{result_given, visits_given}
 use Rattle.fault_defs.specs.declared.Refusal.{Refusal}
 use Rattle.fault_defs.specs.declared.Refusal.TheVariants.{NotThis}
-use Rattle.rx_store.specs.Answers.{Answers}
-use Rattle.rx_store.specs.declared.read_fault.ReadFault.{ReadFault}
 use Rattle.image_reads.specs.Steps.{ReadsAs}
 use Rattle.ufs_inode_defs.specs.Layout.{Layout, layout_1, layout_2, layout_of}
 use Rattle.ufs_inode_defs.specs.Superblock.{superblock_of, wrong_field, checked_super, super_in, super_or, super_of_1, super_of_2, volume_super}
 use Rattle.ufs_inode_defs.specs.declared.superblock.Super.{Super}
 use Rattle.ufs_super.specs.Magic.{has_magic}
-use Rattle.ufs_super.specs.Looks.{probes, version_looks, super_looks, StayWithin}
+use Rattle.ufs_super.specs.Looks.{version_looks, super_looks}
 
 -- a superblock begins at byte 8192 at least
 least_place : (version : ℕ) → 8192 ≤ (layout_of version).superblock_at

@@ -1,5 +1,5 @@
 -- What the superblock of a volume gives, magic by magic.
-use Rattle.std.specs.Prelude.{◌≡◌, ℕ, ◌+◌, ◌-◌, ◌^◌, ◌<◌, ◌≤◌, ◌==◌, ◌&&◌, min, Bool, true, false, if◌then◌else◌, Option, Some, None, IfSome, IfOk, Result, Ok, Err, List, [], ◌∷◌, length, drop, refl}
+use Rattle.std.specs.Prelude.{◌≡◌, ℕ, ◌+◌, ◌-◌, ◌^◌, ◌<◌, ◌≤◌, ◌==◌, ◌&&◌, min, Bool, true, false, if◌then◌else◌, Option, Some, None, IfSome, IfOk, Result, Ok, Err, List, [], ◌∷◌, length, drop}
 use Rattle.std.proofs.Common.{ap, sym, subst, ◌∙◌, arith}
 use Rattle.std.proofs.lemmas.List.{length-take}
 use Rattle.std.proofs.lemmas.Bool.Decides.{nat_tests}
@@ -8,7 +8,7 @@ use Rattle.bytes_defs.specs.Bytes.{part}
 use Rattle.bytes_defs.specs.Numbers.{number_at}
 use Rattle.bytes_defs.specs.declared.order.Order.{Order}
 use Rattle.bytes_defs.specs.declared.order.Order.TheVariants.{Little}
-use Rattle.image_defs.specs.Ask.{Ask, Stop, result_of}
+use Rattle.image_defs.specs.Ask.{Stop, result_of}
 use Rattle.image_defs.proofs.Runs.{result_given}
 use Rattle.fault_defs.specs.declared.Refusal.{Refusal}
 use Rattle.fault_defs.specs.declared.Refusal.TheVariants.{NotThis}

@@ -1,5 +1,5 @@
 use Rattle.std.proofs.Common.{sym, ◌∙◌}
-use Rattle.ufs_inode.proofs.Tests.{is_dead, is_kept, is_long, is_ext_long, is_sound, passes}
+use Rattle.ufs_inode.proofs.InodeTests.{is_dead, is_kept, is_long, is_ext_long, is_sound, passes}
 use Rattle.ufs_inode.proofs.tested.tested.Goals as goal
 
 pub returns-then-inode-eq0-clause-answer : goal.returns-then-inode-eq0-clause-answer
