@@ -5,3 +5,4 @@ pub mod DirectLaws
 pub mod MappedLaws
 pub mod StreamLaws
 pub mod PartLaws
+pub mod FoundLaws

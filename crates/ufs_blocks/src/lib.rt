@@ -3,6 +3,7 @@
 //! After FreeBSD's sys/ufs/ufs/dinode.h: twelve pointers to blocks, then one, two and three levels of blocks of pointers.
 #![tactic(auto)]
 
+mod blocks;
 pub mod laid;
 mod parts;
 mod sizes;
