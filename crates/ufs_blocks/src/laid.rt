@@ -7,7 +7,7 @@ use std::marker::Model;
 /// A pointer: the place in the image where it stands, and the fragment that it names, counted from the volume's first byte; 0 is a
 /// hole.
 #[derive(Debug, Drop)]
-pub struct Pointer {
+pub(crate) struct Pointer {
     pub at: u64,
     pub value: i64,
 }

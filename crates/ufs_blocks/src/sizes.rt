@@ -14,7 +14,7 @@ pub(crate) fn block_size(sup: &Super) -> u64
     ensures some { 4096 ≤ result }
     ensures most { result ≤ 65536 }
 {
-    sup.bsize.max(0) as u64
+    u64::from(ufs_super::block_size(sup))
 }
 
 /// The bytes of a fragment.
@@ -25,7 +25,7 @@ pub(crate) fn fragment_size(sup: &Super) -> u64
     ensures some { 512 ≤ result }
     ensures most { result ≤ 65536 }
 {
-    sup.fsize.max(0) as u64
+    u64::from(ufs_super::fragment_size(sup))
 }
 
 /// The bytes of a pointer.
@@ -33,7 +33,7 @@ pub(crate) fn pointer_len(sup: &Super) -> u64
     ensures value { result ≡ pointer_len_by sup.now.version }
     ensures most { result ≤ 8 }
 {
-    if sup.version == 1 { 4 } else { 8 }
+    u64::from(ufs_super::pointer_len(sup.version))
 }
 
 /// The blocks that a pointer maps through so many levels of blocks of pointers.

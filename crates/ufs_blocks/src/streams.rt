@@ -180,7 +180,7 @@ pub fn content_blocks<S: Store>(
 }
 
 /// The blocks of an inode's extended area, where so many runs were counted before.
-pub fn extended_blocks(
+pub(crate) fn extended_blocks(
     alloc: Global,
     sup: &Super,
     inode: &Inode,

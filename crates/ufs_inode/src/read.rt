@@ -49,6 +49,7 @@ pub fn read_inode<S: Store>(
     ensures told { IfSome (told_image (S.state store.old)) (λ image. Answers result (result_of image (inode_named sup.now number entry))) }
     ensures place { IfOk result (λ inode. inode.at ≡ inode_place_by sup.now number) }
     ensures within { OnOk result (has_inode_by sup.now number ≡ true) }
+    ensures ends { IfOk result (λ inode. inode.at + (layout_of sup.now.version).inode_len ≤ sup.now.at + sup.now.len) }
     ensures tested { IfOk result (λ inode. sound_inode sup.now inode ≡ Done tt) }
     ensures lean { result ≢ Err ReadFault.NoMemory }
     ensures same { S.state store.new ≡ S.state store.old }
@@ -74,6 +75,7 @@ pub fn look_at_inode<S: Store>(
     ensures reads { ReadsAs (told_image (S.state store.old)) (inode_named sup.now number entry) looked.old.items looked.new.items result }
     ensures place { IfOk result (λ inode. inode.at ≡ inode_place_by sup.now number) }
     ensures within { OnOk result (has_inode_by sup.now number ≡ true) }
+    ensures ends { IfOk result (λ inode. inode.at + (layout_of sup.now.version).inode_len ≤ sup.now.at + sup.now.len) }
     ensures tested { IfOk result (λ inode. sound_inode sup.now inode ≡ Done tt) }
     ensures kept { IfOk result (λ inode. looked.new.items ≡ looked.old.items ++ record { at = inode.at; len = (layout_of sup.now.version).inode_len } ∷ []) }
     ensures same { S.state store.new ≡ S.state store.old }

@@ -1,7 +1,7 @@
 use Rattle.std.proofs.Common.{sym, ◌∙◌, arith}
 use Rattle.disk_defs.specs.Disk.{told_image}
 use Rattle.disk_defs.specs.declared.Area.TheVariants.{Image}
-use Rattle.ufs_inode.proofs.Steps.{refused, named_told, place_fits, place_inside, fields_fit}
+use Rattle.ufs_inode.proofs.Steps.{refused, named_told, place_fits, place_inside, fields_fit, inode_ends}
 use Rattle.ufs_inode.proofs.read.read_inode.Goals as goal
 
 pub returns-then-not-has_inode-clause-told : goal.returns-then-not-has_inode-clause-told
@@ -26,3 +26,7 @@ pub returns-clause-told : goal.returns-clause-told
 returns-clause-told g c =
     named_told (told_image (g.S.Store.state c.args.store.now)) c.args.sup.now c.args.number c.args.entry _ c.in_ok-inode.inode c.tested.result (sym c.has_inode.ensures ∙ c.if-not-has_inode.false) c.inode_place.ensures.place
     c.in_ok-inode.ensures.told c.tested.ensures.answer
+
+pub returns-clause-ends : goal.returns-clause-ends
+returns-clause-ends g c =
+    inode_ends c.tested.result c.args.sup.now c.args.number c.in_ok-inode.inode c.tested.ensures.is (sym c.has_inode.ensures ∙ c.if-not-has_inode.false) (c.in_ok-inode.ensures.place ∙ c.inode_place.ensures.place)

@@ -1,0 +1,101 @@
+//! Volumes that were written by hand.
+ghost use Rattle.std.specs.Prelude.{◌≡◌, IfOk, length};
+ghost use Rattle.disk_defs.specs.Memory.{held_in_memory};
+
+use super::{Blocks, blocks_of};
+use range_defs::Range;
+use rx_ranges::{Piece, PieceKind};
+use rx_store::{MemStore, ReadFault, Sort};
+use std::alloc::{AllocError, Global};
+use std::test::Fail;
+use ufs_inode::read_inode;
+use ufs_super::read_super;
+
+/// A UFS2 of 48 fragments of 4,096 bytes, with blocks of 32,768, whose inodes begin at fragment 20. Inode 3 has 393,217 bytes: all
+/// of its first twelve blocks are that at fragment 24, and the first pointer of its block of pointers, at fragment 32, leads to
+/// fragment 40.
+fn volume(alloc: Global) -> Result<Vec<u8>, AllocError>
+    ensures { IfOk result (λ bytes. length bytes.items ≡ 196608) }
+{
+    let mut bytes = vec![in alloc; 0; 196_608]?;
+    // struct fs at 65536
+    bytes[65_552] = 20;
+    bytes[65_580] = 1;
+    bytes[65_585] = 128;
+    bytes[65_589] = 16;
+    bytes[65_592] = 8;
+    bytes[65_653] = 16;
+    bytes[65_656] = 128;
+    bytes[65_720] = 128;
+    bytes[65_724] = 48;
+    bytes[66_908] = 0x19;
+    bytes[66_909] = 0x01;
+    bytes[66_910] = 0x54;
+    bytes[66_911] = 0x19;
+    // struct ufs2_dinode of inode 3, at 81920 + 3 * 256: mode 0100644, size 0x060001
+    bytes[82_688] = 0xA4;
+    bytes[82_689] = 0x81;
+    bytes[82_704] = 1;
+    bytes[82_706] = 6;
+    for number in 0..12 {
+        bytes[82_800 + 8 * number] = 24;
+    }
+    bytes[82_896] = 32;
+    bytes[131_072] = 40;
+    Ok(bytes)
+}
+
+/// The blocks of inode 3 of a volume that is the whole image.
+fn blocks_in(alloc: Global, bytes: Vec<u8>) -> Result<Blocks, ReadFault>
+    requires { length bytes.items ≡ 196608 }
+{
+    let mut store = MemStore::new(alloc, bytes, Vec::new(alloc), 0, 0, 0)?;
+    let sup = read_super(&mut store, 0, 196_608)?;
+    let inode = read_inode(&mut store, &sup, 3, 0)?;
+    blocks_of(alloc, &mut store, &sup, &inode)
+}
+
+#[test]
+fn blocks_behind_the_twelfth_are_found(rt: HostRuntime) -> Result<(), Fail> {
+    let blocks = blocks_in(rt.alloc(), volume(rt.alloc())?)?;
+    let parts = blocks.parts.items();
+    assert_eq!(rt; parts.len(), 1);
+    assert_eq!(rt; parts[0].size, 393_217);
+    let pieces = parts[0].pieces.items();
+    assert_eq!(rt; pieces.len(), 13);
+    let last = Piece {
+        from: 393_216,
+        len: 1,
+        kind: PieceKind::Disk,
+        at: 163_840,
+    };
+    assert_eq!(rt; pieces[12], last);
+    let slack = [Range {
+        at: 163_841,
+        len: 32_767,
+    }];
+    assert_eq!(rt; parts[0].slack.items(), slack.as_slice());
+    let indirect = [Range {
+        at: 131_072,
+        len: 32_768,
+    }];
+    assert_eq!(rt; blocks.indirect.items(), indirect.as_slice());
+    Ok(())
+}
+
+#[test]
+fn a_pointer_out_of_the_volume_is_damage(rt: HostRuntime) -> Result<(), Fail> {
+    let mut bytes = volume(rt.alloc())?;
+    bytes[82_807] = 0x80;
+    assert_eq!(rt;
+        blocks_in(rt.alloc(), bytes).err(),
+        Some(ReadFault::Damaged(Sort::BlockPointer, 82_800))
+    );
+    let mut bytes = volume(rt.alloc())?;
+    bytes[131_072] = 41;
+    assert_eq!(rt;
+        blocks_in(rt.alloc(), bytes).err(),
+        Some(ReadFault::Damaged(Sort::BlockPointer, 131_072))
+    );
+    Ok(())
+}
