@@ -60,8 +60,9 @@ fn blocks_behind_the_twelfth_are_found(rt: HostRuntime) -> Result<(), Fail> {
     let blocks = blocks_in(rt.alloc(), volume(rt.alloc())?)?;
     let parts = blocks.parts.items();
     assert_eq!(rt; parts.len(), 1);
-    assert_eq!(rt; parts[0].size, 393_217);
-    let pieces = parts[0].pieces.items();
+    let content = &parts[0];
+    assert_eq!(rt; content.size, 393_217);
+    let pieces = content.pieces.items();
     assert_eq!(rt; pieces.len(), 13);
     let last = Piece {
         from: 393_216,
@@ -74,7 +75,7 @@ fn blocks_behind_the_twelfth_are_found(rt: HostRuntime) -> Result<(), Fail> {
         at: 163_841,
         len: 32_767,
     }];
-    assert_eq!(rt; parts[0].slack.items(), slack.as_slice());
+    assert_eq!(rt; content.slack.items(), slack.as_slice());
     let indirect = [Range {
         at: 131_072,
         len: 32_768,
