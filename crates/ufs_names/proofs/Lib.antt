@@ -1,0 +1,4 @@
+pub mod SizeLaws
+pub mod WalkLaws
+pub mod PathLaws
+pub mod FoundLaws

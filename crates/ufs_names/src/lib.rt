@@ -3,6 +3,11 @@
 //! After FreeBSD's sys/ufs/ufs/dir.h: from inode 2, directory by directory, breadth first.
 #![tactic(auto)]
 
+mod entry;
 mod name;
+mod path;
+mod sizes;
+mod walk;
 
 pub use name::Name;
+pub use walk::Walk;

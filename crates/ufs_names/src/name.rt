@@ -1,5 +1,8 @@
 //! Names.
+ghost use Rattle.std.specs.Prelude.{◌≡◌, IfOk};
+
 use rx_ranges::Text;
+use std::alloc::{AllocError, Global};
 use std::marker::Model;
 use ufs_inode_defs::inode::Inode;
 
@@ -26,4 +29,19 @@ impl Model for Name {
       directory = n.directory;
       offset = n.offset;
     } };
+}
+
+impl Name {
+    /// The same name once more.
+    pub fn copy(&self, alloc: Global) -> Result<Name, AllocError>
+        ensures { IfOk result (λ copy. copy ≡ self.now) }
+    {
+        Ok(Name {
+            number: self.number,
+            inode: self.inode,
+            path: Text::from_str(alloc, self.path.as_str())?,
+            directory: self.directory,
+            offset: self.offset,
+        })
+    }
 }

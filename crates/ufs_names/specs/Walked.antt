@@ -1,0 +1,62 @@
+-- What holds of a walk over every store, also one that tells nothing.
+use Rattle.std.specs.Prelude.{◌≡◌, ℕ, ◌*◌, ◌<◌, ◌≤◌, true, All, nat_le, if◌then◌else◌, Result, Ok, Err, List, length}
+use Rattle.range_defs.specs.declared.Range.{Range}
+use Rattle.rx_ranges.specs.Path.{IsPath}
+use Rattle.rx_tree.specs.Within.{AreRangesWithin}
+use Rattle.image_defs.specs.Ask.{Ask, Done, Stop}
+use Rattle.fault_defs.specs.declared.Refusal.{Refusal}
+use Rattle.fault_defs.specs.declared.Refusal.TheVariants as refusal
+use Rattle.fault_defs.specs.declared.Bound.TheVariants.{Path}
+use Rattle.rx_store.specs.declared.read_fault.ReadFault.{ReadFault}
+use Rattle.rx_store.specs.declared.read_fault.ReadFault.TheVariants.{Device, NoMemory, NotThis, Damaged, Unsupported, Limit}
+use Rattle.ufs_inode_defs.specs.Superblock.{block_size, has_inode, inode_place}
+use Rattle.ufs_inode_defs.specs.Inode.{sound_inode}
+use Rattle.ufs_inode_defs.specs.Blocks.{most_runs}
+use Rattle.ufs_inode_defs.specs.declared.superblock.Super.{Super}
+use Rattle.ufs_inode_defs.specs.declared.inode.Inode.{Inode}
+use Rattle.ufs_volume_defs.specs.Names.{Named, Walk, Block, longest_path, most_names, most_path_bytes, path_bytes}
+
+-- a sound inode of a number that the volume has
+pub record IsInodeOf (sup : Super) (number : ℕ) (inode : Inode) : Type 0 where
+  pub within : has_inode sup number ≡ true
+  pub place : inode.at ≡ inode_place sup number
+  pub sound : sound_inode sup inode ≡ Done tt
+
+-- a name has a path, and gives it to such an inode
+pub record IsNamed (sup : Super) (name : Named) : Type 0 where
+  pub path : IsPath name.path
+  pub inode : IsInodeOf sup name.number name.inode
+
+-- the names and the runs of a walk are within their limits
+pub record IsWalked (sup : Super) (walk : Walk) : Type 0 where
+  pub named : All (IsNamed sup) walk.names
+  pub few : length walk.names ≤ most_names
+  pub short : path_bytes walk.names ≤ most_path_bytes
+  pub runs : walk.runs ≤ most_runs
+
+-- the ranges that are kept now end in a volume, if those of before did
+abbrev pub KeptWithin : ℕ → List Range → List Range → Type 0
+KeptWithin last before after = (end : ℕ) → last ≤ end → AreRangesWithin end before → AreRangesWithin end after
+
+-- a block begins in a content of so many bytes
+abbrev pub BeginsIn : Super → ℕ → Block → Type 0
+BeginsIn sup size block = block.index * block_size sup < size
+
+-- a path that isn't too long
+abbrev pub limited_path : List ℕ → Result (List ℕ) Refusal
+limited_path path = if nat_le (length path) longest_path then Ok path else Err (refusal.Limit Path longest_path)
+
+-- a name whose path isn't too long
+abbrev pub limited_name : Named → Result Named Refusal
+limited_name name = if nat_le (length name.path) longest_path then Ok name else Err (refusal.Limit Path longest_path)
+
+-- What a step that reads nothing says of its program: it is done with the value, or stops with the refusal. A device and want
+-- of memory say nothing.
+abbrev pub Settles : {X : Type 0} → Result X ReadFault → Ask Refusal X → Type 0
+Settles (Ok x) program = program ≡ Done x
+Settles (Err Device) program = Unit {0}
+Settles (Err NoMemory) program = Unit {0}
+Settles (Err NotThis) program = program ≡ Stop refusal.NotThis
+Settles (Err (Damaged sort place)) program = program ≡ Stop (refusal.Damaged sort place)
+Settles (Err (Unsupported what place)) program = program ≡ Stop (refusal.Unsupported what place)
+Settles (Err (Limit bound number)) program = program ≡ Stop (refusal.Limit bound number)
