@@ -1,5 +1,5 @@
 //! The entries of a block.
-ghost use Rattle.std.specs.Prelude.{◌≡◌, ◌+◌, ◌%◌, ◌≤◌, ◌≢◌, Err, length};
+ghost use Rattle.std.specs.Prelude.{◌≡◌, ◌+◌, ◌%◌, ◌<◌, ◌≤◌, ◌≢◌, All, Err, IfOk, length};
 ghost use Rattle.range_defs.specs.declared.TheConstants.{LONGEST_IMAGE};
 ghost use Rattle.ufs_volume_defs.specs.Directory.{entries_of};
 ghost use Rattle.ufs_volume_defs.specs.Names.{leading};
@@ -21,6 +21,7 @@ pub fn leading_entries<'a>(
     requires whole { length bytes.now % 512 ≡ 0 }
     requires near { at + length bytes.now ≤ LONGEST_IMAGE }
     ensures entries { Answers result (leading at (entries_of order bytes.now)) }
+    ensures inside { IfOk result (All (λ entry. entry.at < length bytes.now)) }
     ensures calm { result ≢ Err ReadFault.Device }
 {
     let mut found = Vec::new(alloc);

@@ -1,5 +1,5 @@
 -- The names of a walk, one more at a time.
-use Rattle.std.specs.Prelude.{◌≡◌, ℕ, suc, ◌+◌, ◌<◌, ◌≤◌, Bool, true, false, nat_le, All, Option, None, Some, Result, Ok, Err, List, [], ◌∷◌, ◌++◌, length, refl}
+use Rattle.std.specs.Prelude.{◌≡◌, ℕ, suc, ◌+◌, ◌<◌, ◌≤◌, Bool, true, false, nat_le, All, Option, None, Some, OnOk, Result, Ok, Err, List, [], ◌∷◌, ◌++◌, length, refl}
 use Rattle.std.proofs.Common.{arith, ap, sym, subst, ◌∙◌, append-nil}
 use Rattle.std.proofs.lemmas.Bool.{le-leb, lt-leb}
 use Rattle.std.proofs.lemmas.List.Elements.{All-push, All-append}
@@ -71,3 +71,7 @@ pub kept_one : (last : ℕ) (before after : List Range) (range : Range) → afte
 kept_one last before after range is inside =
     λ end far all.
     subst (λ ranges. AreRangesWithin end ranges) (sym is) (All-push (λ one. one.at + one.len ≤ end) before range all (omega arith))
+
+pub kept_then : {X E : Type 0} (result : Result X E) (last : ℕ) (first second third : List Range) → KeptWithin last first second → OnOk result (KeptWithin last second third) → OnOk result (KeptWithin last first third)
+kept_then (Ok x) last first second third one two = kept_on last first second third one two
+kept_then (Err e) last first second third one two = tt

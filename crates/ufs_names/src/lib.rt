@@ -3,9 +3,11 @@
 //! After FreeBSD's sys/ufs/ufs/dir.h: from inode 2, directory by directory, breadth first.
 #![tactic(auto)]
 
+mod block;
 mod entry;
 mod name;
 mod path;
+mod places;
 mod sizes;
 mod walk;
 
