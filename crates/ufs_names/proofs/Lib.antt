@@ -5,3 +5,5 @@ pub mod FoundLaws
 pub mod BlockLaws
 pub mod BlockNames
 pub mod PlaceLaws
+pub mod LieLaws
+pub mod DirectoryLaws

@@ -1,7 +1,9 @@
 -- What holds of a walk over every store, also one that tells nothing.
-use Rattle.std.specs.Prelude.{◌≡◌, ℕ, ◌*◌, ◌<◌, ◌≤◌, true, All, nat_le, if◌then◌else◌, Result, Ok, Err, List, length}
+use Rattle.std.specs.Prelude.{◌≡◌, ℕ, ◌+◌, ◌*◌, ◌<◌, ◌≤◌, true, All, nat_le, if◌then◌else◌, Some, Result, Ok, Err, List, length}
 use Rattle.range_defs.specs.declared.Range.{Range}
 use Rattle.rx_ranges.specs.Path.{IsPath}
+use Rattle.rx_ranges.specs.declared.pieces.Piece.{Piece}
+use Rattle.piece_defs.specs.Places.{place_through}
 use Rattle.rx_tree.specs.Within.{AreRangesWithin}
 use Rattle.image_defs.specs.Ask.{Ask, Done, Stop}
 use Rattle.fault_defs.specs.declared.Refusal.{Refusal}
@@ -12,6 +14,7 @@ use Rattle.rx_store.specs.declared.read_fault.ReadFault.TheVariants.{Device, NoM
 use Rattle.ufs_inode_defs.specs.Superblock.{block_size, has_inode, inode_place}
 use Rattle.ufs_inode_defs.specs.Inode.{sound_inode}
 use Rattle.ufs_inode_defs.specs.Blocks.{most_runs}
+use Rattle.ufs_inode_defs.specs.Stream.{content_len}
 use Rattle.ufs_inode_defs.specs.declared.superblock.Super.{Super}
 use Rattle.ufs_inode_defs.specs.declared.inode.Inode.{Inode}
 use Rattle.ufs_volume_defs.specs.Names.{Named, Walk, Block, longest_path, most_names, most_path_bytes, path_bytes}
@@ -38,9 +41,18 @@ pub record IsWalked (sup : Super) (walk : Walk) : Type 0 where
 abbrev pub KeptWithin : ℕ → List Range → List Range → Type 0
 KeptWithin last before after = (end : ℕ) → last ≤ end → AreRangesWithin end before → AreRangesWithin end after
 
+-- a block of a content of so many bytes stands where pieces put its first byte
+pub record IsPlacedBlock (sup : Super) (size : ℕ) (pieces : List Piece) (block : Block) : Type 0 where
+  pub begins : block.index * block_size sup < size
+  pub place : place_through pieces (block.index * block_size sup) ≡ Some block.at
+
 -- a block begins in a content of so many bytes
 abbrev pub BeginsIn : Super → ℕ → Block → Type 0
 BeginsIn sup size block = block.index * block_size sup < size
+
+-- what a block has of such a content lies in the volume
+abbrev pub LiesIn : Super → ℕ → Block → Type 0
+LiesIn sup size block = block.at + content_len sup size block.index ≤ sup.at + sup.len
 
 -- a path that isn't too long
 abbrev pub limited_path : List ℕ → Result (List ℕ) Refusal

@@ -11,7 +11,7 @@ ghost use Rattle.rx_store.specs.ReadFaults.{IsReadCounted};
 ghost use Rattle.ufs_inode_defs.specs.Stream.{content_len as content_len_by};
 ghost use Rattle.ufs_inode_defs.specs.Superblock.{block_size as block_size_by, wrong_field};
 ghost use Rattle.ufs_volume_defs.specs.Names.{block_names as block_names_by, entry_name as entry_name_by};
-ghost use Rattle.ufs_names.specs.Walked.{BeginsIn, IsWalked, KeptWithin};
+ghost use Rattle.ufs_names.specs.Walked.{BeginsIn, IsWalked, KeptWithin, LiesIn};
 
 use crate::entry::{Block, entry_name};
 use crate::name::Name;
@@ -37,10 +37,10 @@ fn read_block<S: Store>(
     requires sound { wrong_field sup.now ≡ None }
     requires inside { sup.now.at + sup.now.len ≤ size_of Image (S.state store.old) }
     requires near { sup.now.at + sup.now.len ≤ LONGEST_IMAGE }
-    requires lies { IfSome (told_image (S.state store.old)) (λ image. block.now.at + content_len_by sup.now size block.now.index ≤ sup.now.at + sup.now.len) }
+    requires lies { IfSome (told_image (S.state store.old)) (λ image. LiesIn sup.now size block.now) }
     ensures reads { ReadsAs (told_image (S.state store.old)) (look block.now.at (content_len_by sup.now size block.now.index)) looked.old.items looked.new.items result }
     ensures long { IfOk result (λ bytes. length bytes ≡ content_len_by sup.now size block.now.index) }
-    ensures within { OnOk result (block.now.at + content_len_by sup.now size block.now.index ≤ sup.now.at + sup.now.len) }
+    ensures within { OnOk result (LiesIn sup.now size block.now) }
     ensures kept { OnOk result (KeptWithin (sup.now.at + sup.now.len) looked.old.items looked.new.items) }
     ensures same { S.state store.new ≡ S.state store.old }
     ensures counted { IsReadCounted Image result (S.faults store.old) (S.faults store.new) }
@@ -101,7 +101,7 @@ pub(crate) fn block_names<S: Store>(
     requires whole { directory.now.inode.size % 512 ≡ 0 }
     requires short { directory.now.inode.size ≤ 4611686018427387904 }
     requires begins { BeginsIn sup.now directory.now.inode.size block.now }
-    requires lies { IfSome (told_image (S.state store.old)) (λ image. block.now.at + content_len_by sup.now directory.now.inode.size block.now.index ≤ sup.now.at + sup.now.len) }
+    requires lies { IfSome (told_image (S.state store.old)) (λ image. LiesIn sup.now directory.now.inode.size block.now) }
     requires walked { IsWalked sup.now walk }
     ensures reads { ReadsAs (told_image (S.state store.old)) (block_names_by sup.now directory.now walk block.now) looked.old.items looked.new.items result }
     ensures walked { IfOk result (IsWalked sup.now) }

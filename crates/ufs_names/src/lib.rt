@@ -4,6 +4,7 @@
 #![tactic(auto)]
 
 mod block;
+mod directory;
 mod entry;
 mod name;
 mod path;

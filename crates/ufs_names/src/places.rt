@@ -5,7 +5,7 @@ ghost use Rattle.range_defs.specs.declared.TheConstants.{LONGEST_IMAGE};
 ghost use Rattle.rx_store.specs.Answers.{Answers};
 ghost use Rattle.ufs_inode_defs.specs.Superblock.{wrong_field};
 ghost use Rattle.ufs_volume_defs.specs.Names.{directory_blocks as directory_blocks_by};
-ghost use Rattle.ufs_names.specs.Walked.{BeginsIn};
+ghost use Rattle.ufs_names.specs.Walked.{IsPlacedBlock};
 ghost use Rattle.ufs_names.specs.Passed.{HasPassed, IsInFront};
 
 use crate::entry::Block;
@@ -72,7 +72,7 @@ pub(crate) fn directory_blocks(
     requires stands { inode.now.at ≤ LONGEST_IMAGE }
     requires within { AreWithin LONGEST_IMAGE pieces.now }
     ensures blocks { Answers result (directory_blocks_by sup.now inode.now pieces.now) }
-    ensures begins { IfOk result (All (BeginsIn sup.now inode.now.size)) }
+    ensures placed { IfOk result (All (IsPlacedBlock sup.now inode.now.size pieces.now)) }
     ensures calm { result ≢ Err ReadFault.Device }
 {
     let unit = block_size(sup);

@@ -1,5 +1,5 @@
 //! The sizes of blocks, and what an inode is.
-ghost use Rattle.std.specs.Prelude.{◌≡◌, ◌+◌, ◌≤◌, None};
+ghost use Rattle.std.specs.Prelude.{◌≡◌, ◌+◌, ◌≤◌, None, length};
 ghost use Rattle.range_defs.specs.declared.TheConstants.{LONGEST_IMAGE};
 ghost use Rattle.ufs_inode_defs.specs.Inode.{is_directory as is_directory_by, size_place as size_place_by};
 ghost use Rattle.ufs_inode_defs.specs.Stream.{block_count as block_count_by, content_len as content_len_by};
@@ -58,4 +58,14 @@ pub(crate) fn super_place(sup: &Super) -> u64
     ensures { result ≡ super_place_by sup.now }
 {
     sup.at + if sup.version == 1 { 8_192 } else { 65_536 }
+}
+
+/// Twelve pointers lead to blocks of the content, and three to blocks of pointers, as the type of an inode says.
+pub(crate) fn pointer_rows(inode: &Inode)
+    ensures direct { length inode.now.direct ≡ 12 }
+    ensures indirect { length inode.now.indirect ≡ 3 }
+{
+    let direct: &[i64] = &inode.direct;
+    let indirect: &[i64] = &inode.indirect;
+    let _rows = (direct.len(), indirect.len());
 }

@@ -1,0 +1,19 @@
+use Rattle.std.proofs.Common.{◌≡◌, ◌+◌, drop}
+use Rattle.disk_defs.specs.Disk.{told_image}
+use Rattle.image_defs.specs.Standing.{IsCome}
+use Rattle.image_defs.specs.Through.{through}
+use Rattle.ufs_volume_defs.specs.Names.{block_names}
+use Rattle.ufs_names.specs.Walked.{IsWalked, KeptWithin}
+use Rattle.ufs_names.proofs.directory.blocks_names.Given as goal
+
+-- the names of the blocks so far were found, and those of the others are left
+abbrev pub invariant-loop-block : goal.invariant-loop-block
+invariant-loop-block g l = record {
+  same : g.S.Store.state l.store ≡ g.S.Store.state l.fn.store;
+  calm : g.S.Store.faults l.store ≡ g.S.Store.faults l.fn.store;
+  walked : IsWalked l.sup l.walk;
+  come :
+      IsCome (told_image (g.S.Store.state l.fn.store)) (through (block_names l.sup l.directory) l.fn.walk l.blocks) l.fn.looked.items
+      (through (block_names l.sup l.directory) l.walk (drop l.block-index l.blocks)) l.looked.items;
+  kept : KeptWithin (l.sup.at + l.sup.len) l.fn.looked.items l.looked.items;
+}

@@ -1,0 +1,87 @@
+//! The names that the entries of a directory give.
+ghost use Rattle.std.specs.Prelude.{◌≡◌, ◌+◌, ◌%◌, ◌≤◌, None, All, IfOk, IfSome, OnOk, length};
+ghost use Rattle.disk_defs.specs.Disk.{size_of, told_image};
+ghost use Rattle.disk_defs.specs.declared.Area.TheVariants.{Image};
+ghost use Rattle.image_defs.specs.Through.{through};
+ghost use Rattle.image_reads.specs.Steps.{ReadsAs};
+ghost use Rattle.range_defs.specs.declared.TheConstants.{LONGEST_IMAGE};
+ghost use Rattle.rx_ranges.specs.Path.{IsPath};
+ghost use Rattle.rx_store.specs.ReadFaults.{IsReadCounted};
+ghost use Rattle.ufs_inode_defs.specs.Superblock.{wrong_field};
+ghost use Rattle.ufs_volume_defs.specs.Names.{block_names as block_names_by, directory_names as directory_names_by};
+ghost use Rattle.ufs_names.specs.Walked.{BeginsIn, IsNamed, IsWalked, KeptWithin, LiesIn};
+
+use crate::block::block_names;
+use crate::entry::Block;
+use crate::name::Name;
+use crate::places::directory_blocks;
+use crate::sizes::{pointer_rows, size_place};
+use crate::walk::Walk;
+use range_defs::Range;
+use rx_store::{ReadFault, Sort, Store};
+use std::alloc::Global;
+use ufs_blocks::content_blocks;
+use ufs_inode_defs::superblock::Super;
+
+/// The names that blocks of a directory give, behind those that were found.
+fn blocks_names<S: Store>(
+    alloc: Global,
+    store: &mut S,
+    sup: &Super,
+    directory: &Name,
+    mut walk: Walk,
+    blocks: &[Block],
+    looked: &mut Vec<Range>,
+) -> Result<Walk, ReadFault>
+    requires sound { wrong_field sup.now ≡ None }
+    requires inside { sup.now.at + sup.now.len ≤ size_of Image (S.state store.old) }
+    requires near { sup.now.at + sup.now.len ≤ LONGEST_IMAGE }
+    requires path { IsPath directory.now.path }
+    requires whole { directory.now.inode.size % 512 ≡ 0 }
+    requires short { directory.now.inode.size ≤ 4611686018427387904 }
+    requires begin { All (BeginsIn sup.now directory.now.inode.size) blocks.now }
+    requires lie { IfSome (told_image (S.state store.old)) (λ image. All (LiesIn sup.now directory.now.inode.size) blocks.now) }
+    requires walked { IsWalked sup.now walk }
+    ensures reads { ReadsAs (told_image (S.state store.old)) (through (block_names_by sup.now directory.now) walk blocks.now) looked.old.items looked.new.items result }
+    ensures walked { IfOk result (IsWalked sup.now) }
+    ensures kept { OnOk result (KeptWithin (sup.now.at + sup.now.len) looked.old.items looked.new.items) }
+    ensures same { S.state store.new ≡ S.state store.old }
+    ensures counted { IsReadCounted Image result (S.faults store.old) (S.faults store.new) }
+{
+    for block in blocks {
+        walk = block_names(alloc, store, sup, directory, walk, block, looked)?;
+    }
+    Ok(walk)
+}
+
+/// The names that the entries of a directory give, behind those that were found.
+pub(crate) fn directory_names<S: Store>(
+    alloc: Global,
+    store: &mut S,
+    sup: &Super,
+    walk: Walk,
+    directory: &Name,
+    looked: &mut Vec<Range>,
+) -> Result<Walk, ReadFault>
+    requires sound { wrong_field sup.now ≡ None }
+    requires inside { sup.now.at + sup.now.len ≤ size_of Image (S.state store.old) }
+    requires near { sup.now.at + sup.now.len ≤ LONGEST_IMAGE }
+    requires named { IsNamed sup.now directory.now }
+    requires walked { IsWalked sup.now walk }
+    ensures reads { ReadsAs (told_image (S.state store.old)) (directory_names_by sup.now walk directory.now) looked.old.items looked.new.items result }
+    ensures walked { IfOk result (IsWalked sup.now) }
+    ensures kept { OnOk result (KeptWithin (sup.now.at + sup.now.len) looked.old.items looked.new.items) }
+    ensures same { S.state store.new ≡ S.state store.old }
+    ensures counted { IsReadCounted Image result (S.faults store.old) (S.faults store.new) }
+{
+    let inode = &directory.inode;
+    pointer_rows(inode);
+    if inode.size % 512 != 0 {
+        return Err(ReadFault::Damaged(Sort::DirSize, size_place(sup, inode)));
+    }
+    let laid = content_blocks(alloc, store, sup, inode, walk.runs, looked)?;
+    let blocks = directory_blocks(alloc, sup, inode, &laid.pieces)?;
+    let runs = laid.before + laid.pieces.len() as u64 + laid.visited;
+    let walk = walk.with_runs(runs);
+    blocks_names(alloc, store, sup, directory, walk, blocks.items(), looked)
+}
