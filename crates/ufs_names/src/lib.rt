@@ -6,6 +6,7 @@
 mod block;
 mod directory;
 mod entry;
+mod levels;
 mod name;
 mod path;
 mod places;

@@ -1,0 +1,69 @@
+//! The walk from level to level.
+ghost use Rattle.std.specs.Prelude.{◌≡◌, ◌+◌, ◌≤◌, None, All, IfOk, OnOk, length, suc};
+ghost use Rattle.disk_defs.specs.Disk.{size_of, told_image};
+ghost use Rattle.disk_defs.specs.declared.Area.TheVariants.{Image};
+ghost use Rattle.image_defs.specs.Through.{through};
+ghost use Rattle.image_reads.specs.Steps.{ReadsAs};
+ghost use Rattle.range_defs.specs.declared.TheConstants.{LONGEST_IMAGE};
+ghost use Rattle.rx_store.specs.ReadFaults.{IsReadCounted};
+ghost use Rattle.ufs_inode_defs.specs.Superblock.{wrong_field};
+ghost use Rattle.ufs_volume_defs.specs.Names.{deepest, directories_behind as directories_behind_by, directory_names as directory_names_by, names_below as names_below_by};
+ghost use Rattle.ufs_names.specs.Walked.{IsNamed, IsWalked, KeptWithin};
+
+use crate::directory::directory_names;
+use crate::name::Name;
+use crate::sizes::is_directory;
+use crate::walk::Walk;
+use range_defs::Range;
+use rx_ranges::Items;
+use rx_store::{Bound, ReadFault, Store};
+use std::alloc::{AllocError, Global};
+use ufs_inode_defs::superblock::Super;
+
+/// The most directories on the way from the root to a file.
+const DEEPEST: u64 = 1_024;
+
+/// Copies of the directories among the names behind a number of them.
+pub(crate) fn directories_behind(
+    alloc: Global,
+    count: usize,
+    names: &[Name],
+) -> Result<Items<Name>, AllocError>
+    requires { count ≤ length names.now }
+    ensures { IfOk result (λ found. found ≡ directories_behind_by count names.now) }
+{
+    let mut found = Vec::new(alloc);
+    for name in &names[count..] {
+        if is_directory(&name.inode) {
+            found.push(name.copy(alloc)?)?;
+        }
+    }
+    Ok(Items::from_vec(found))
+}
+
+/// The names that the entries of directories give, behind those that were found.
+fn level_names<S: Store>(
+    alloc: Global,
+    store: &mut S,
+    sup: &Super,
+    mut walk: Walk,
+    directories: &[Name],
+    looked: &mut Vec<Range>,
+) -> Result<Walk, ReadFault>
+    requires sound { wrong_field sup.now ≡ None }
+    requires inside { sup.now.at + sup.now.len ≤ size_of Image (S.state store.old) }
+    requires near { sup.now.at + sup.now.len ≤ LONGEST_IMAGE }
+    requires named { All (IsNamed sup.now) directories.now }
+    requires walked { IsWalked sup.now walk }
+    ensures reads { ReadsAs (told_image (S.state store.old)) (through (directory_names_by sup.now) walk directories.now) looked.old.items looked.new.items result }
+    ensures walked { IfOk result (IsWalked sup.now) }
+    ensures longer { IfOk result (λ after. length walk.names ≤ length after.names) }
+    ensures kept { OnOk result (KeptWithin (sup.now.at + sup.now.len) looked.old.items looked.new.items) }
+    ensures same { S.state store.new ≡ S.state store.old }
+    ensures counted { IsReadCounted Image result (S.faults store.old) (S.faults store.new) }
+{
+    for directory in directories {
+        walk = directory_names(alloc, store, sup, walk, directory, looked)?;
+    }
+    Ok(walk)
+}
