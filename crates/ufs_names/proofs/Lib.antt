@@ -7,3 +7,5 @@ pub mod BlockNames
 pub mod PlaceLaws
 pub mod LieLaws
 pub mod DirectoryLaws
+pub mod LevelLaws
+pub mod RootLaws

@@ -1,5 +1,5 @@
 //! The walk from level to level.
-ghost use Rattle.std.specs.Prelude.{◌≡◌, ◌+◌, ◌≤◌, None, All, IfOk, OnOk, length, suc};
+ghost use Rattle.std.specs.Prelude.{◌≡◌, ◌+◌, ◌≤◌, None, All, IfOk, OnOk, suc};
 ghost use Rattle.disk_defs.specs.Disk.{size_of, told_image};
 ghost use Rattle.disk_defs.specs.declared.Area.TheVariants.{Image};
 ghost use Rattle.image_defs.specs.Through.{through};
@@ -20,7 +20,7 @@ use rx_store::{Bound, ReadFault, Store};
 use std::alloc::{AllocError, Global};
 use ufs_inode_defs::superblock::Super;
 
-/// The most directories on the way from the root to a file.
+/// The most directories on the way from the root to a file, the root's among them.
 const DEEPEST: u64 = 1_024;
 
 /// Copies of the directories among the names behind a number of them.
@@ -29,11 +29,11 @@ pub(crate) fn directories_behind(
     count: usize,
     names: &[Name],
 ) -> Result<Items<Name>, AllocError>
-    requires { count ≤ length names.now }
     ensures { IfOk result (λ found. found ≡ directories_behind_by count names.now) }
 {
     let mut found = Vec::new(alloc);
-    for name in &names[count..] {
+    let first = count.min(names.len());
+    for name in &names[first..] {
         if is_directory(&name.inode) {
             found.push(name.copy(alloc)?)?;
         }
@@ -57,7 +57,6 @@ fn level_names<S: Store>(
     requires walked { IsWalked sup.now walk }
     ensures reads { ReadsAs (told_image (S.state store.old)) (through (directory_names_by sup.now) walk directories.now) looked.old.items looked.new.items result }
     ensures walked { IfOk result (IsWalked sup.now) }
-    ensures longer { IfOk result (λ after. length walk.names ≤ length after.names) }
     ensures kept { OnOk result (KeptWithin (sup.now.at + sup.now.len) looked.old.items looked.new.items) }
     ensures same { S.state store.new ≡ S.state store.old }
     ensures counted { IsReadCounted Image result (S.faults store.old) (S.faults store.new) }
@@ -66,4 +65,39 @@ fn level_names<S: Store>(
         walk = directory_names(alloc, store, sup, walk, directory, looked)?;
     }
     Ok(walk)
+}
+
+/// The names below the directories of one depth, and then those below the directories among them, down 1,025 depths.
+pub(crate) fn names_below<S: Store>(
+    alloc: Global,
+    store: &mut S,
+    sup: &Super,
+    mut walk: Walk,
+    mut directories: Items<Name>,
+    looked: &mut Vec<Range>,
+) -> Result<Walk, ReadFault>
+    requires sound { wrong_field sup.now ≡ None }
+    requires inside { sup.now.at + sup.now.len ≤ size_of Image (S.state store.old) }
+    requires near { sup.now.at + sup.now.len ≤ LONGEST_IMAGE }
+    requires named { All (IsNamed sup.now) directories }
+    requires walked { IsWalked sup.now walk }
+    ensures reads { ReadsAs (told_image (S.state store.old)) (names_below_by (suc deepest) sup.now walk directories) looked.old.items looked.new.items result }
+    ensures walked { IfOk result (IsWalked sup.now) }
+    ensures kept { OnOk result (KeptWithin (sup.now.at + sup.now.len) looked.old.items looked.new.items) }
+    ensures same { S.state store.new ≡ S.state store.old }
+    ensures counted { IsReadCounted Image result (S.faults store.old) (S.faults store.new) }
+{
+    for depth in 0..DEEPEST + 1 {
+        if directories.items().is_empty() {
+            return Ok(walk);
+        }
+        let count = walk.names.len();
+        walk = level_names(alloc, store, sup, walk, directories.items(), looked)?;
+        directories = directories_behind(alloc, count, walk.names.as_slice())?;
+    }
+    if directories.items().is_empty() {
+        Ok(walk)
+    } else {
+        Err(ReadFault::Limit(Bound::Depth, DEEPEST))
+    }
 }

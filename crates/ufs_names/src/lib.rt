@@ -10,8 +10,10 @@ mod levels;
 mod name;
 mod path;
 mod places;
+mod root;
 mod sizes;
 mod walk;
 
 pub use name::Name;
+pub use root::read_names;
 pub use walk::Walk;
