@@ -1,8 +1,9 @@
 -- The walk goes down from level to level.
-use Rattle.std.specs.Prelude.{◌≡◌, ◌≢◌, ℕ, zero, suc, ◌+◌, ◌<◌, ◌≤◌, min, Bool, true, false, if◌then◌else◌, All, IsErr, IsErrAnd, Option, Result, Ok, Err, List, [], ◌∷◌, length, drop, refl}
+use Rattle.std.specs.Prelude.{◌≡◌, ◌≢◌, ℕ, zero, suc, ◌+◌, ◌-◌, ◌<◌, ◌≤◌, min, Bool, ◌==◌, true, false, if◌then◌else◌, All, IsErr, IsErrAnd, Option, Result, Ok, Err, List, [], ◌∷◌, length, drop, refl}
 use Rattle.std.specs.List.{AllByRecursion, filter}
 use Rattle.std.proofs.Common.{arith, ap, sym, subst, ◌∙◌, ⊎_elim, drop_of_length-le}
 use Rattle.std.proofs.lemmas.Bool.{cases_lt}
+use Rattle.std.proofs.lemmas.Bool.Decides.{Decides-eqb}
 use Rattle.std.proofs.lemmas.List.Elements.{recursion_from_All, All-from_recursion}
 use Rattle.range_defs.specs.declared.Range.{Range}
 use Rattle.image_defs.specs.Ask.{Ask, Done, Stop, ◌>>=◌}
@@ -14,7 +15,7 @@ use Rattle.fault_defs.specs.declared.Bound.TheVariants.{Depth}
 use Rattle.rx_store.specs.declared.read_fault.ReadFault.{ReadFault}
 use Rattle.rx_store.specs.declared.read_fault.ReadFault.TheVariants.{Limit}
 use Rattle.image_reads.specs.Steps.{ReadsAs}
-use Rattle.image_reads.proofs.Steps.{comes_value, comes_fault, comes_done, comes_stop}
+use Rattle.image_reads.proofs.Steps.{comes_value, comes_fault, comes_done, comes_stop, ends_with}
 use Rattle.ufs_inode_defs.specs.declared.superblock.Super.{Super}
 use Rattle.ufs_volume_defs.specs.Names.{Named, Walk, deepest, directories_behind, directory_names, names_below, names_directory}
 use Rattle.ufs_names.specs.Walked.{IsNamed}
@@ -78,10 +79,42 @@ module _ (told : Option (List ℕ)) (whole : Ask Refusal Walk) (before now : Lis
   level_stops later depths (directory ∷ directories) fault looked last same some come read =
       comes_fault told whole before later (through (directory_names sup) walk (directory ∷ directories)) (λ after. names_below depths sup after (directories_behind (length walk.names) after.names)) now same come fault looked last read
 
--- whether a list of directories is empty
-pub none_left : (directories seen : List Named) → seen ≡ directories → length seen ≡ 0 → directories ≡ []
-none_left [] seen same none = refl
-none_left (directory ∷ directories) seen same none = absurd (omega (arith, none, ap length same))
+-- whether a list of directories is empty, as a test says
+pub none_left : (directories seen : List Named) (empty : Bool) → seen ≡ directories → empty ≡ (length seen == 0) → empty ≡ true → directories ≡ []
+none_left [] seen empty same says is = refl
+none_left (directory ∷ directories) seen empty same says is = let none : length seen ≡ 0 = (Decides-eqb (length seen) 0).0 (sym says ∙ is) in absurd (omega (arith, none, ap length same))
 
-pub some_left : (directories seen : List Named) → seen ≡ directories → length seen ≢ 0 → directories ≢ []
-some_left directories seen same some = λ none. some (ap length same ∙ ap length none)
+pub some_left : (directories seen : List Named) (empty : Bool) → seen ≡ directories → empty ≡ (length seen == 0) → empty ≡ false → directories ≢ []
+some_left directories seen empty same says is = λ none.
+    let zero_length : length seen ≡ 0 = ap length same ∙ ap length none in
+    let test : (length seen == 0) ≡ true = (Decides-eqb (length seen) 0).1 zero_length in
+    absurd (true≢false (sym test ∙ sym says ∙ is))
+  where
+    true≢false : true ≡ false → ⊥
+    true≢false same = absurd cc
+
+module _ (told : Option (List ℕ)) (whole : Ask Refusal Walk) (before now : List Range) (sup : Super) (walk : Walk) (later : Option (List ℕ)) (depth : ℕ) (directories seen : List Named)
+    (same : later ≡ told) (some : directories ≢ []) (listed : seen ≡ directories) (deep : depth < 1025) (come : IsCome told whole before (names_below (1025 - depth) sup walk directories) now) where
+  one_less : IsCome told whole before (names_below (suc (1025 - (depth + 1))) sup walk directories) now
+  one_less =
+      let P : ℕ → Type 0 = λ n. IsCome told whole before (names_below n sup walk directories) now in
+      let less : 1025 - depth ≡ suc (1025 - (depth + 1)) = omega arith in
+      subst P less come
+
+  -- the next depth
+  pub depth_goes : (after : Walk) (count : ℕ) (names behind : List Named) (looked : List Range) → count ≡ length walk.names → names ≡ after.names → behind ≡ directories_behind count names
+      → ReadsAs later (through (directory_names sup) walk seen) now looked (Ok after)
+      → IsCome told whole before (names_below (1025 - (depth + 1)) sup after behind) looked
+  depth_goes after count names behind looked counts all is read =
+      let P : List Named → Type 0 = λ list. ReadsAs later (through (directory_names sup) walk list) now looked (Ok after) in
+      let Q : List Named → Type 0 = λ list. IsCome told whole before (names_below (1025 - (depth + 1)) sup after list) looked in
+      subst Q (sym (is ∙ ap (λ n. directories_behind n names) counts ∙ ap (directories_behind (length walk.names)) all))
+      (level_goes told whole before now sup walk later (1025 - (depth + 1)) directories after looked same some one_less (subst P listed read))
+
+  -- its names can't be found
+  pub depth_stops : (result : Result Walk ReadFault) (fault : ReadFault) (looked : List Range) → IsErr result → IsErrAnd result (λ other. other ≡ fault)
+      → (let failed : Result Walk ReadFault = Err fault in ReadsAs later (through (directory_names sup) walk seen) now looked failed) → ReadsAs told whole before looked result
+  depth_stops result fault looked is passed read =
+      let P : List Named → Type 0 = λ list. (let failed : Result Walk ReadFault = Err fault in ReadsAs later (through (directory_names sup) walk list) now looked failed) in
+      ends_with told whole before looked result fault is passed
+      (level_stops told whole before now sup walk later (1025 - (depth + 1)) directories fault looked looked same some one_less (subst P listed read))
