@@ -1,0 +1,3 @@
+pub mod Footprint
+pub mod ImageLaws
+pub mod Rows
