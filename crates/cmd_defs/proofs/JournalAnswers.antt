@@ -1,6 +1,6 @@
 -- What a store holds has one answer of each command of the journal, and a status that says so is that answer, or a fault or want of
 -- memory.
-use Rattle.std.proofs.Common.{◌≡◌, ◌≢◌, refl, ap, ℕ, Bool, Some, None, List, sym, ◌∙◌, ◌⊎◌, inl, inr, Option, IfSome}
+use Rattle.std.proofs.Common.{◌≡◌, refl, ap, ℕ, Bool, Some, None, List, sym, ◌∙◌, ◌⊎◌, inl, inr, ⊎_elim, Option, IfSome}
 use Rattle.disk_defs.specs.Story.{Held}
 use Rattle.disk_defs.specs.Disk.{State}
 use Rattle.journal_defs.specs.Checks.{bad_at}
@@ -9,7 +9,7 @@ use Rattle.rx_ranges.specs.declared.plan.Plan.{Plan}
 use Rattle.cmd_defs.specs.declared.status.JournalRefusal.TheVariants.{NotOpen, Bad, OtherLength}
 use Rattle.cmd_defs.specs.declared.status.PlanRefusal.TheVariants.{MeetsGuard}
 use Rattle.cmd_defs.specs.declared.status.Status.{Status}
-use Rattle.cmd_defs.specs.declared.status.Status.TheVariants.{Done, Usage, PlanRefused, JournalOpen, JournalRefused, DeviceFault, SourceFault, SinkFault, Limit, NoMemory, NotBuilt}
+use Rattle.cmd_defs.specs.declared.status.Status.TheVariants.{Done, Usage, NotRecognised, Damaged, Unsupported, PlanRefused, JournalOpen, JournalRefused, DeviceFault, SourceFault, SinkFault, Limit, NoMemory, NotBuilt}
 use Rattle.cmd_defs.specs.Outcome.{IfTextAndHeld}
 use Rattle.cmd_defs.specs.JournalFacts.{HoldsPlan}
 use Rattle.cmd_defs.specs.PlanCommand.{PlanAnswers}
@@ -51,6 +51,9 @@ report_answer journal (JournalRefused (Bad at)) (JournalRefused NotOpen) x y = a
 report_answer journal (JournalRefused (Bad at)) (JournalRefused (Bad other)) x y = one_place journal at other x.1 y.1
 report_answer journal a (JournalRefused (OtherLength kept found)) x y = absurd y
 report_answer journal a Usage x y = absurd y
+report_answer journal a NotRecognised x y = absurd y
+report_answer journal a (Damaged sort place) x y = absurd y
+report_answer journal a (Unsupported what place) x y = absurd y
 report_answer journal a (PlanRefused refusal) x y = absurd y
 report_answer journal a JournalOpen x y = absurd y
 report_answer journal a DeviceFault x y = absurd y
@@ -61,6 +64,9 @@ report_answer journal a NoMemory x y = absurd y
 report_answer journal a NotBuilt x y = absurd y
 report_answer journal (JournalRefused (OtherLength kept found)) b x y = absurd x
 report_answer journal Usage b x y = absurd x
+report_answer journal NotRecognised b x y = absurd x
+report_answer journal (Damaged sort place) b x y = absurd x
+report_answer journal (Unsupported what place) b x y = absurd x
 report_answer journal (PlanRefused refusal) b x y = absurd x
 report_answer journal JournalOpen b x y = absurd x
 report_answer journal DeviceFault b x y = absurd x
@@ -81,6 +87,9 @@ is_report_answer journal DeviceFault store out W P says device sink answer asked
 is_report_answer journal SinkFault store out W P says device sink answer asked a b = absurd (b (sink refl))
 is_report_answer journal NoMemory store out W P says device sink answer asked a b = inr refl
 is_report_answer journal Usage store out W P says device sink answer asked a b = absurd says
+is_report_answer journal NotRecognised store out W P says device sink answer asked a b = absurd says
+is_report_answer journal (Damaged sort place) store out W P says device sink answer asked a b = absurd says
+is_report_answer journal (Unsupported what place) store out W P says device sink answer asked a b = absurd says
 is_report_answer journal (PlanRefused refusal) store out W P says device sink answer asked a b = absurd says
 is_report_answer journal JournalOpen store out W P says device sink answer asked a b = absurd says
 is_report_answer journal SourceFault store out W P says device sink answer asked a b = absurd says
@@ -124,6 +133,9 @@ resume_answer held (JournalRefused (OtherLength kept found)) (JournalRefused Not
 resume_answer held (JournalRefused (OtherLength kept found)) (JournalRefused (Bad at)) x y = absurd (good_or_bad held.journal x.0 x.1 x.2 at x.3 y.1)
 resume_answer held (JournalRefused (OtherLength kept found)) (JournalRefused (OtherLength kept' found')) x y = one_other held kept found kept' found' x y
 resume_answer held a Usage x y = absurd y
+resume_answer held a NotRecognised x y = absurd y
+resume_answer held a (Damaged sort place) x y = absurd y
+resume_answer held a (Unsupported what place) x y = absurd y
 resume_answer held a (PlanRefused refusal) x y = absurd y
 resume_answer held a JournalOpen x y = absurd y
 resume_answer held a DeviceFault x y = absurd y
@@ -133,6 +145,9 @@ resume_answer held a (Limit bound number) x y = absurd y
 resume_answer held a NoMemory x y = absurd y
 resume_answer held a NotBuilt x y = absurd y
 resume_answer held Usage b x y = absurd x
+resume_answer held NotRecognised b x y = absurd x
+resume_answer held (Damaged sort place) b x y = absurd x
+resume_answer held (Unsupported what place) b x y = absurd x
 resume_answer held (PlanRefused refusal) b x y = absurd x
 resume_answer held JournalOpen b x y = absurd x
 resume_answer held DeviceFault b x y = absurd x
@@ -152,6 +167,9 @@ is_resume_answer held before now DeviceFault store out W P says device sink answ
 is_resume_answer held before now SinkFault store out W P says device sink answer asked a b = absurd (b (sink refl))
 is_resume_answer held before now NoMemory store out W P says device sink answer asked a b = inr refl
 is_resume_answer held before now Usage store out W P says device sink answer asked a b = absurd says
+is_resume_answer held before now NotRecognised store out W P says device sink answer asked a b = absurd says
+is_resume_answer held before now (Damaged sort place) store out W P says device sink answer asked a b = absurd says
+is_resume_answer held before now (Unsupported what place) store out W P says device sink answer asked a b = absurd says
 is_resume_answer held before now (PlanRefused refusal) store out W P says device sink answer asked a b = absurd says
 is_resume_answer held before now JournalOpen store out W P says device sink answer asked a b = absurd says
 is_resume_answer held before now SourceFault store out W P says device sink answer asked a b = absurd says
@@ -160,76 +178,30 @@ is_resume_answer held before now NotBuilt store out W P says device sink answer 
 
 -- ---- redact
 
--- a rule text and what is held with which the journal isn't open have the answer of `plan`
-to_plan : (text : List ℕ) (held : Held) (status : Status) → ¬ (RedactAnswers JournalOpen text held) → RedactAnswers status text held → PlanAnswers status text held.image
-to_plan text held Done shut x = (tt, (x.0, x.1, x.2.forms, x.2.unguarded, x.2.few_ranges, tt))
-to_plan text held NotBuilt shut x = (tt, x.0)
-to_plan text held (PlanRefused (MeetsGuard byte number)) shut x = (tt, x.0)
-to_plan text held (Limit bound number) shut x = (tt, x.0)
-to_plan text held JournalOpen shut x = absurd (shut x)
-to_plan text held Usage shut x = absurd x
-to_plan text held (JournalRefused refusal) shut x = absurd x
-to_plan text held DeviceFault shut x = absurd x
-to_plan text held SourceFault shut x = absurd x
-to_plan text held SinkFault shut x = absurd x
-to_plan text held NoMemory shut x = absurd x
-
--- no other answer comes where the journal is open
-shut_by : (text : List ℕ) (held : Held) (status : Status) → status ≢ JournalOpen → RedactAnswers status text held → ¬ (RedactAnswers JournalOpen text held)
-shut_by text held Done other x = λ stands. x.2.closed stands.1
-shut_by text held NotBuilt other x = λ stands. x.1 stands.0 stands.1
-shut_by text held (PlanRefused (MeetsGuard byte number)) other x = λ stands. x.1 stands.1
-shut_by text held (Limit bound number) other x = λ stands. x.1 stands.1
-shut_by text held JournalOpen other x = absurd (other refl)
-shut_by text held Usage other x = absurd x
-shut_by text held (JournalRefused refusal) other x = absurd x
-shut_by text held DeviceFault other x = absurd x
-shut_by text held SourceFault other x = absurd x
-shut_by text held SinkFault other x = absurd x
-shut_by text held NoMemory other x = absurd x
-
-by_other : (text : List ℕ) (held : Held) (a b : Status) → a ≢ JournalOpen → b ≢ JournalOpen → RedactAnswers a text held → RedactAnswers b text held → a ≡ b
-by_other text held a b first second x y =
-    one_answer text held.image a b (to_plan text held a (shut_by text held a first x) x) (to_plan text held b (shut_by text held b second y) y)
+-- an answer is that the journal is open, or it is shut and the answer is that of `plan`
+behind_journal : (text : List ℕ) (held : Held) (status : Status) → RedactAnswers status text held
+    → ((status ≡ JournalOpen) × RedactAnswers JournalOpen text held) ⊎ (¬ (RedactAnswers JournalOpen text held) × PlanAnswers status text held.image)
+behind_journal text held JournalOpen x = inl (refl, x)
+behind_journal text held Done x = inr (λ stands. x.2.closed stands.1, (tt, (x.0, x.1, x.2.forms, x.2.unguarded, x.2.few_ranges, tt)))
+behind_journal text held NotBuilt x = inr (λ stands. x.1 stands.0 stands.1, (tt, x.0))
+behind_journal text held NotRecognised x = inr (λ stands. x.1 stands.1, (tt, x.0))
+behind_journal text held (Damaged sort place) x = inr (λ stands. x.1 stands.1, (tt, x.0))
+behind_journal text held (Unsupported what place) x = inr (λ stands. x.1 stands.1, (tt, x.0))
+behind_journal text held (PlanRefused (MeetsGuard byte number)) x = inr (λ stands. x.1 stands.1, (tt, x.0))
+behind_journal text held (Limit bound number) x = inr (λ stands. x.1 stands.1, (tt, x.0))
+behind_journal text held Usage x = absurd x
+behind_journal text held (JournalRefused refusal) x = absurd x
+behind_journal text held DeviceFault x = absurd x
+behind_journal text held SourceFault x = absurd x
+behind_journal text held SinkFault x = absurd x
+behind_journal text held NoMemory x = absurd x
 
 pub redact_answer : RedactHasOneAnswer
-redact_answer text held JournalOpen JournalOpen x y = refl
-redact_answer text held JournalOpen Done x y = absurd (shut_by text held Done (λ is. cc) y x)
-redact_answer text held JournalOpen NotBuilt x y = absurd (shut_by text held NotBuilt (λ is. cc) y x)
-redact_answer text held JournalOpen (PlanRefused (MeetsGuard byte number)) x y = absurd (shut_by text held (PlanRefused (MeetsGuard byte number)) (λ is. cc) y x)
-redact_answer text held JournalOpen (Limit bound number) x y = absurd (shut_by text held (Limit bound number) (λ is. cc) y x)
-redact_answer text held Done JournalOpen x y = absurd (shut_by text held Done (λ is. cc) x y)
-redact_answer text held NotBuilt JournalOpen x y = absurd (shut_by text held NotBuilt (λ is. cc) x y)
-redact_answer text held (PlanRefused (MeetsGuard byte number)) JournalOpen x y = absurd (shut_by text held (PlanRefused (MeetsGuard byte number)) (λ is. cc) x y)
-redact_answer text held (Limit bound number) JournalOpen x y = absurd (shut_by text held (Limit bound number) (λ is. cc) x y)
-redact_answer text held Done Done x y = by_other text held Done Done (λ is. cc) (λ is. cc) x y
-redact_answer text held Done NotBuilt x y = by_other text held Done NotBuilt (λ is. cc) (λ is. cc) x y
-redact_answer text held Done (PlanRefused (MeetsGuard place rule)) x y = by_other text held Done (PlanRefused (MeetsGuard place rule)) (λ is. cc) (λ is. cc) x y
-redact_answer text held Done (Limit bound2 number2) x y = by_other text held Done (Limit bound2 number2) (λ is. cc) (λ is. cc) x y
-redact_answer text held NotBuilt Done x y = by_other text held NotBuilt Done (λ is. cc) (λ is. cc) x y
-redact_answer text held NotBuilt NotBuilt x y = by_other text held NotBuilt NotBuilt (λ is. cc) (λ is. cc) x y
-redact_answer text held NotBuilt (PlanRefused (MeetsGuard place rule)) x y = by_other text held NotBuilt (PlanRefused (MeetsGuard place rule)) (λ is. cc) (λ is. cc) x y
-redact_answer text held NotBuilt (Limit bound2 number2) x y = by_other text held NotBuilt (Limit bound2 number2) (λ is. cc) (λ is. cc) x y
-redact_answer text held (PlanRefused (MeetsGuard byte number)) Done x y = by_other text held (PlanRefused (MeetsGuard byte number)) Done (λ is. cc) (λ is. cc) x y
-redact_answer text held (PlanRefused (MeetsGuard byte number)) NotBuilt x y = by_other text held (PlanRefused (MeetsGuard byte number)) NotBuilt (λ is. cc) (λ is. cc) x y
-redact_answer text held (PlanRefused (MeetsGuard byte number)) (PlanRefused (MeetsGuard place rule)) x y = by_other text held (PlanRefused (MeetsGuard byte number)) (PlanRefused (MeetsGuard place rule)) (λ is. cc) (λ is. cc) x y
-redact_answer text held (PlanRefused (MeetsGuard byte number)) (Limit bound2 number2) x y = by_other text held (PlanRefused (MeetsGuard byte number)) (Limit bound2 number2) (λ is. cc) (λ is. cc) x y
-redact_answer text held (Limit bound number) Done x y = by_other text held (Limit bound number) Done (λ is. cc) (λ is. cc) x y
-redact_answer text held (Limit bound number) NotBuilt x y = by_other text held (Limit bound number) NotBuilt (λ is. cc) (λ is. cc) x y
-redact_answer text held (Limit bound number) (PlanRefused (MeetsGuard place rule)) x y = by_other text held (Limit bound number) (PlanRefused (MeetsGuard place rule)) (λ is. cc) (λ is. cc) x y
-redact_answer text held (Limit bound number) (Limit bound2 number2) x y = by_other text held (Limit bound number) (Limit bound2 number2) (λ is. cc) (λ is. cc) x y
-redact_answer text held a Usage x y = absurd y
-redact_answer text held a (JournalRefused refusal) x y = absurd y
-redact_answer text held a DeviceFault x y = absurd y
-redact_answer text held a SourceFault x y = absurd y
-redact_answer text held a SinkFault x y = absurd y
-redact_answer text held a NoMemory x y = absurd y
-redact_answer text held Usage b x y = absurd x
-redact_answer text held (JournalRefused refusal) b x y = absurd x
-redact_answer text held DeviceFault b x y = absurd x
-redact_answer text held SourceFault b x y = absurd x
-redact_answer text held SinkFault b x y = absurd x
-redact_answer text held NoMemory b x y = absurd x
+redact_answer text held a b x y =
+    ⊎_elim
+    (λ stands. ⊎_elim (λ other. stands.0 ∙ sym other.0) (λ shut. absurd (shut.0 stands.1)) (behind_journal text held b y))
+    (λ shut. ⊎_elim (λ stands. absurd (shut.0 stands.1)) (λ other. one_answer text held.image a b shut.1 other.1) (behind_journal text held b y))
+    (behind_journal text held a x)
 
 pub is_redact_answer : (text : List ℕ) (held : Held) (before now : State) (status : Status) (store rules out : Type 0) (W P : List ℕ → Type 0)
     → RedactSays status text held before now W P → (status ≡ DeviceFault → store) → (status ≡ SourceFault → rules) → (status ≡ SinkFault → out)
@@ -237,6 +209,9 @@ pub is_redact_answer : (text : List ℕ) (held : Held) (before now : State) (sta
 is_redact_answer text held before now Done store rules out W P says device source sink answer asked a b c = inl (redact_answer text held Done answer (says.0, says.1, says.2) asked)
 is_redact_answer text held before now NotBuilt store rules out W P says device source sink answer asked a b c = inl (redact_answer text held NotBuilt answer says asked)
 is_redact_answer text held before now JournalOpen store rules out W P says device source sink answer asked a b c = inl (redact_answer text held JournalOpen answer says asked)
+is_redact_answer text held before now NotRecognised store rules out W P says device source sink answer asked a b c = inl (redact_answer text held NotRecognised answer says asked)
+is_redact_answer text held before now (Damaged sort place) store rules out W P says device source sink answer asked a b c = inl (redact_answer text held (Damaged sort place) answer says asked)
+is_redact_answer text held before now (Unsupported what place) store rules out W P says device source sink answer asked a b c = inl (redact_answer text held (Unsupported what place) answer says asked)
 is_redact_answer text held before now (PlanRefused (MeetsGuard byte number)) store rules out W P says device source sink answer asked a b c =
     inl (redact_answer text held (PlanRefused (MeetsGuard byte number)) answer says asked)
 is_redact_answer text held before now (Limit bound number) store rules out W P says device source sink answer asked a b c = inl (redact_answer text held (Limit bound number) answer says asked)

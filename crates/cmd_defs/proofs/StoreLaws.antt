@@ -1,14 +1,13 @@
 -- Laws of stores that were synced and then carried out a plan.
-use Rattle.std.proofs.Common.{◌≡◌, ◌≢◌, ℕ, Bool, Option, Some, None, IfSome, List, length, refl, sym, ◌∙◌, ap, subst}
+use Rattle.std.proofs.Common.{◌≡◌, ℕ, Bool, Option, Some, None, IfSome, List, length, refl, ◌∙◌, ap, subst}
 use Rattle.std.specs.Option.{option_map}
 use Rattle.disk_defs.specs.Story.{Held, Change, Story, Made, Sync, held_by, and_then}
 use Rattle.disk_defs.specs.Disk.{State, held, told_of, bytes_of, state_after, state_after_all}
 use Rattle.disk_defs.specs.declared.Area.{Area}
-use Rattle.journal_defs.specs.Form.{groups_of}
 use Rattle.rx_ranges.specs.PlanChecks.{IsPlan}
 use Rattle.rx_ranges.specs.declared.plan.Plan.{Plan}
 use Rattle.session_defs.specs.Script.{script, rest_of, changes_of}
-use Rattle.session_defs.specs.Outcome.{filled, unmarked_ranges, done_journal, changed_all}
+use Rattle.session_defs.specs.Outcome.{filled, unmarked_ranges, changed_all}
 use Rattle.session_defs.proofs.Made.{held_law}
 use Rattle.session_defs.proofs.OutcomeLaws.{script_law, rest_law}
 use Rattle.cmd_defs.specs.JournalFacts.{HoldsPlan, IsCarriedOut}

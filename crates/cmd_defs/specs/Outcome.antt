@@ -3,12 +3,15 @@ use Rattle.std.specs.Prelude.{ℕ, Option, Some, None, List}
 use Rattle.disk_defs.specs.Count.{Rose}
 use Rattle.disk_defs.specs.Story.{Held}
 use Rattle.cmd_defs.specs.declared.status.Status.{Status}
-use Rattle.cmd_defs.specs.declared.status.Status.TheVariants.{Done, Usage, PlanRefused, JournalOpen, JournalRefused, DeviceFault, SourceFault, SinkFault, Limit, NoMemory, NotBuilt}
+use Rattle.cmd_defs.specs.declared.status.Status.TheVariants.{Done, Usage, NotRecognised, Damaged, Unsupported, PlanRefused, JournalOpen, JournalRefused, DeviceFault, SourceFault, SinkFault, Limit, NoMemory, NotBuilt}
 
 -- the statuses that tell of the words, the texts and the disk alone: no fault, and no want of memory
 abbrev pub IsAnswer : Status → Type 0
 IsAnswer Done = Unit {0}
 IsAnswer Usage = Unit {0}
+IsAnswer NotRecognised = Unit {0}
+IsAnswer (Damaged sort place) = Unit {0}
+IsAnswer (Unsupported what place) = Unit {0}
 IsAnswer (PlanRefused refusal) = Unit {0}
 IsAnswer JournalOpen = Unit {0}
 IsAnswer (JournalRefused refusal) = Unit {0}
@@ -24,6 +27,9 @@ IsAnswer NotBuilt = Unit {0}
 abbrev pub IsRefusal : Status → Type 0
 IsRefusal Done = ⊥
 IsRefusal Usage = Unit {0}
+IsRefusal NotRecognised = Unit {0}
+IsRefusal (Damaged sort place) = Unit {0}
+IsRefusal (Unsupported what place) = Unit {0}
 IsRefusal (PlanRefused refusal) = Unit {0}
 IsRefusal JournalOpen = Unit {0}
 IsRefusal (JournalRefused refusal) = Unit {0}
@@ -38,6 +44,9 @@ IsRefusal NotBuilt = Unit {0}
 abbrev pub IsSilent : Status → Type 0
 IsSilent Done = ⊥
 IsSilent Usage = Unit {0}
+IsSilent NotRecognised = Unit {0}
+IsSilent (Damaged sort place) = Unit {0}
+IsSilent (Unsupported what place) = Unit {0}
 IsSilent (PlanRefused refusal) = Unit {0}
 IsSilent JournalOpen = Unit {0}
 IsSilent (JournalRefused refusal) = Unit {0}

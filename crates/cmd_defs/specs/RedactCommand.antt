@@ -3,6 +3,7 @@
 use Rattle.std.specs.Prelude.{◌≡◌, ◌⊎◌, ℕ, ◌≤◌, None, List, length}
 use Rattle.disk_defs.specs.Story.{Held}
 use Rattle.disk_defs.specs.Disk.{State}
+use Rattle.fault_defs.specs.declared.Refusal.TheVariants as refusals
 use Rattle.journal_defs.specs.Form.{IsOpen}
 use Rattle.rule_defs.specs.declared.Rule.{Rule}
 use Rattle.rx_ranges.specs.declared.plan.Plan.{Plan}
@@ -13,11 +14,11 @@ use Rattle.session_defs.specs.Outcome.{filled}
 use Rattle.text_defs.specs.Report.{report}
 use Rattle.text_defs.specs.declared.ReportState.TheVariants as state
 use Rattle.cmd_defs.specs.JournalFacts.{IsUntouched, IsCarriedOut, IsCutShort}
-use Rattle.cmd_defs.specs.PlanCommand.{MeetsForms, SaysRules, HasNoForm, FillsGuard, PassesRanges}
+use Rattle.cmd_defs.specs.PlanCommand.{MeetsForms, SaysRules, HasNoForm, RefusesImage, FillsGuard, PassesLimit}
 use Rattle.rx_ranges.specs.declared.plan.TheConstants.{MAX_RANGES}
 use Rattle.cmd_defs.specs.declared.status.PlanRefusal.TheVariants.{MeetsGuard}
 use Rattle.cmd_defs.specs.declared.status.Status.{Status}
-use Rattle.cmd_defs.specs.declared.status.Status.TheVariants.{Done, NotBuilt, JournalOpen, PlanRefused, DeviceFault, SourceFault, SinkFault, Limit, NoMemory}
+use Rattle.cmd_defs.specs.declared.status.Status.TheVariants.{Done, NotBuilt, NotRecognised, Damaged, Unsupported, JournalOpen, PlanRefused, DeviceFault, SourceFault, SinkFault, Limit, NoMemory}
 
 -- the rule text and the image have a plan that fills no byte of the guard, and the journal doesn't stand open
 pub record IsPlanned (text : List ℕ) (held : Held) (rules : List Rule) (tree : TreeValue) : Type 0 where
@@ -48,8 +49,11 @@ RedactSays SourceFault text held before now Wrote BeganWith = Unit {0}
 RedactSays DeviceFault text held before now Wrote BeganWith = SaysRules text × (IsUntouched before now ⊎ WasStopped text held before now)
 RedactSays JournalOpen text held before now Wrote BeganWith = SaysRules text × IsOpen held.journal
 RedactSays NotBuilt text held before now Wrote BeganWith = HasNoForm text held.image × (SaysRules text → ¬ (IsOpen held.journal))
+RedactSays NotRecognised text held before now Wrote BeganWith = RefusesImage refusals.NotThis text held.image × ¬ (IsOpen held.journal)
+RedactSays (Damaged sort place) text held before now Wrote BeganWith = RefusesImage (refusals.Damaged sort place) text held.image × ¬ (IsOpen held.journal)
+RedactSays (Unsupported what place) text held before now Wrote BeganWith = RefusesImage (refusals.Unsupported what place) text held.image × ¬ (IsOpen held.journal)
 RedactSays (PlanRefused (MeetsGuard byte number)) text held before now Wrote BeganWith = FillsGuard byte number text held.image × ¬ (IsOpen held.journal)
-RedactSays (Limit bound number) text held before now Wrote BeganWith = PassesRanges bound number text held.image × ¬ (IsOpen held.journal)
+RedactSays (Limit bound number) text held before now Wrote BeganWith = PassesLimit bound number text held.image × ¬ (IsOpen held.journal)
 RedactSays SinkFault text held before now Wrote BeganWith = HasRedacted text held before now BeganWith
 RedactSays Done text held before now Wrote BeganWith = HasRedacted text held before now Wrote
 RedactSays NoMemory text held before now Wrote BeganWith = Unit {0}
@@ -63,7 +67,10 @@ CanRedact text held = (rules : List Rule) × (tree : TreeValue) × IsPlanned tex
 abbrev pub RedactAnswers : Status → List ℕ → Held → Type 0
 RedactAnswers JournalOpen text held = SaysRules text × IsOpen held.journal
 RedactAnswers NotBuilt text held = HasNoForm text held.image × (SaysRules text → ¬ (IsOpen held.journal))
+RedactAnswers NotRecognised text held = RefusesImage refusals.NotThis text held.image × ¬ (IsOpen held.journal)
+RedactAnswers (Damaged sort place) text held = RefusesImage (refusals.Damaged sort place) text held.image × ¬ (IsOpen held.journal)
+RedactAnswers (Unsupported what place) text held = RefusesImage (refusals.Unsupported what place) text held.image × ¬ (IsOpen held.journal)
 RedactAnswers (PlanRefused (MeetsGuard byte number)) text held = FillsGuard byte number text held.image × ¬ (IsOpen held.journal)
-RedactAnswers (Limit bound number) text held = PassesRanges bound number text held.image × ¬ (IsOpen held.journal)
+RedactAnswers (Limit bound number) text held = PassesLimit bound number text held.image × ¬ (IsOpen held.journal)
 RedactAnswers Done text held = CanRedact text held
 RedactAnswers _ text held = ⊥

@@ -2,7 +2,7 @@
 ghost use Rattle.std.specs.Prelude.{◌≡◌};
 ghost use Rattle.cmd_defs.specs.Status.{code_of};
 
-use fault_defs::Bound;
+use fault_defs::{Bound, Sort, What};
 
 /// Why a plan is refused.
 #[derive(Clone, Copy, Debug, PartialEq, Eq)]
@@ -29,6 +29,12 @@ pub enum Status {
     Done,
     /// The words ask for no command.
     Usage,
+    /// The image has no file system that is known.
+    NotRecognised,
+    /// The image is damaged: the sort, and the place in the image.
+    Damaged(Sort, u64),
+    /// The image has what isn't supported, at this place in the image.
+    Unsupported(What, u64),
     /// The rules can't be carried out on the image.
     PlanRefused(PlanRefusal),
     /// The journal already holds a plan.
@@ -57,6 +63,9 @@ impl Status {
         match self {
             Status::Done => 0,
             Status::Usage => 2,
+            Status::NotRecognised => 3,
+            Status::Damaged(_, _) => 4,
+            Status::Unsupported(_, _) => 5,
             Status::PlanRefused(_) => 7,
             Status::JournalOpen => 8,
             Status::JournalRefused(_) => 9,

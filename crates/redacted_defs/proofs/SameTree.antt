@@ -1,41 +1,21 @@
 -- A filled image has the same tree: no byte of the guard is planned, so that the two agree there. The same holds of the bytes of a
 -- file that touches no planned byte.
-use Rattle.std.proofs.Common.{◌≡◌, ℕ, zero, suc, ◌<◌, Bool, true, false, ◌&&◌, Some, None, Ok, Err, Result, Option, is_some, cond, List, length, refl, ap, subst, sym, ◌∙◌, ⊎_elim, arith}
+use Rattle.std.proofs.Common.{◌≡◌, ℕ, zero, suc, ◌<◌, Bool, true, false, ◌&&◌, Some, None, Option, is_some, cond, List, refl, ap, subst, sym, ◌∙◌, ⊎_elim, arith}
 use Rattle.std.proofs.lemmas.Bool.{cases_lt, false≢true}
 use Rattle.range_defs.specs.declared.Range.{Range}
 use Rattle.range_defs.specs.Places.{covers, least_below, otherwise}
 use Rattle.range_defs.specs.Claims.{painted, longest_claims}
 use Rattle.range_defs.proofs.ClaimLaws.{painted-past, longest_claims_claim, longest_claims_ends}
 use Rattle.image_defs.specs.Agreement.{AgreeOn}
-use Rattle.image_defs.specs.Ask.{result_of}
-use Rattle.image_defs.specs.Runs.{with_value}
 use Rattle.rx_tree.specs.TreeValue.{TreeValue}
-use Rattle.rx_tree.specs.declared.file.FileEntry.{FileEntry}
 use Rattle.rule_defs.specs.declared.Rule.{Rule}
 use Rattle.plan_defs.specs.Plan.{planned_at, is_planned, plan_of, guarded_byte, touched_ranges}
 use Rattle.session_defs.specs.Outcome.{filled}
 use Rattle.session_defs.proofs.Filled.{untouched_law}
-use Rattle.volume_defs.specs.FirstForm.{FirstFault, first_files}
-use Rattle.volume_defs.specs.FirstTree.{first_tree, guard_of, tree_of}
-use Rattle.volume_defs.proofs.FirstFootprint.{first_form_law}
+use Rattle.tree_defs.specs.ImageTree.{image_guard}
+use Rattle.tree_defs.proofs.Footprint.{image_footprint_law}
+use Rattle.tree_defs.proofs.ImageLaws.{tree-guard}
 use Rattle.redacted_defs.specs.SameTree.{SameTreeLaw, SameFilesLaw}
-
--- ---- the guard of a tree is that of its image
-
--- the guard of a tree that is there
-abbrev guard_or : List Range → Result TreeValue FirstFault → List Range
-guard_or other (Ok tree) = tree.guard
-guard_or other (Err fault) = other
-
--- a tree that was made of files has this guard
-guard_of_files : (size : ℕ) (guard : List Range) (files : Result (List FileEntry) FirstFault) (tree : TreeValue)
-    → with_value (tree_of size guard) files ≡ Ok tree → tree.guard ≡ guard
-guard_of_files size guard (Ok files) tree same = sym (ap (guard_or guard) same)
-guard_of_files size guard (Err fault) tree same = sym (ap (guard_or guard) same)
-
-tree-guard : (image : List ℕ) (tree : TreeValue) → first_tree image ≡ Ok tree → tree.guard ≡ guard_of image
-unfolding first_tree
-tree-guard image tree same = guard_of_files (length image) (guard_of image) (result_of image (first_files (length image))) tree same
 
 -- ---- no byte of the guard is planned
 
@@ -86,10 +66,10 @@ agree-back ranges a b same = record { same_length = sym same.same_length; same_b
 pub same_tree_law : SameTreeLaw
 same_tree_law image tree rules is_tree none =
     let claims = (plan_of tree rules).ranges in
-    let agree = agree-back (guard_of image) (filled claims image) image (untouched_law claims image (guard_of image)
+    let agree = agree-back (image_guard image) (filled claims image) image (untouched_law claims image (image_guard image)
     (λ byte covered. unguarded tree rules byte none (ap (λ guard. covers guard byte) (tree-guard image tree is_tree) ∙ covered))) in
-    let same = first_form_law image (filled claims image) agree in
-    (same.0 ∙ is_tree, same.1)
+    let same = image_footprint_law image (filled claims image) agree in
+    (same.tree ∙ is_tree, same.guard, same.kind)
 
 no_least : (least : Option ℕ) → is_some least ≡ false → least ≡ None
 no_least None none = refl
