@@ -1,5 +1,5 @@
 -- The command `plan`: what each status says of the rule text and the image, and of what was written.
-use Rattle.std.specs.Prelude.{◌≡◌, ◌≢◌, ◌⊎◌, ℕ, ◌≤◌, Some, None, Ok, Err, List, length}
+use Rattle.std.specs.Prelude.{◌≡◌, ◌⊎◌, ℕ, ◌≤◌, Some, None, Ok, Err, List, length}
 use Rattle.fault_defs.specs.declared.Bound.{Bound}
 use Rattle.fault_defs.specs.declared.Bound.TheVariants.{Ranges}
 use Rattle.fault_defs.specs.declared.Refusal.{Refusal}
@@ -8,7 +8,7 @@ use Rattle.rx_ranges.specs.declared.plan.TheConstants.{MAX_RANGES}
 use Rattle.rule_defs.specs.declared.Rule.{Rule}
 use Rattle.rule_defs.specs.Reads.{Reads, SaysNoRules}
 use Rattle.rx_tree.specs.TreeValue.{TreeValue}
-use Rattle.tree_defs.specs.Kind.{other_kind}
+use Rattle.tree_defs.specs.Kind.{other_kind, IsOtherKind}
 use Rattle.tree_defs.specs.ImageTree.{image_tree}
 use Rattle.plan_defs.specs.Plan.{plan_of, guarded_byte, planning_rule, HasMoreRanges}
 use Rattle.text_defs.specs.Report.{report}
@@ -27,10 +27,6 @@ pub record MeetsForms (text image : List ℕ) (rules : List Rule) (tree : TreeVa
 -- the text says some rules
 abbrev pub SaysRules : List ℕ → Type 0
 SaysRules text = (rules : List Rule) × Reads text rules
-
--- the image is of a kind that isn't read yet
-abbrev pub IsOtherKind : List ℕ → Type 0
-IsOtherKind image = other_kind image ≢ None
 
 -- the text has another form, or the image is of another kind
 abbrev pub HasNoForm : List ℕ → List ℕ → Type 0

@@ -10,7 +10,6 @@ use Rattle.rx_ranges.specs.PlanChecks.{IsPlan}
 use Rattle.rx_ranges.specs.declared.plan.Plan.{Plan}
 use Rattle.rx_ranges.specs.declared.plan.TheConstants.{MAX_RANGES}
 use Rattle.rx_tree.specs.TreeValue.{TreeValue}
-use Rattle.volume_defs.specs.FirstTree.{first_tree}
 use Rattle.plan_defs.specs.Plan.{plan_of, guarded_byte}
 use Rattle.session_defs.specs.Script.{script, changes_of}
 use Rattle.session_defs.specs.Session.{SessionValue, HasSizes, Begun, IsStopped, calls_of, new_session}
@@ -26,11 +25,12 @@ use Rattle.cmd_defs.specs.RedactCommand.{IsPlanned, IsRedacted, HasRedacted, Red
 use Rattle.cmd_defs.specs.declared.status.Status.{Status}
 use Rattle.cmd_defs.specs.declared.status.Status.TheVariants.{DeviceFault, JournalOpen}
 use Rattle.cmd_defs.proofs.StoreLaws.{script_carried}
-use Rattle.first_reader.specs.Gives.{GivesTree}
-use Rattle.first_reader.specs.declared.fault.FirstReadFault.{FirstReadFault}
-use Rattle.first_reader.specs.declared.fault.FirstReadFault.TheVariants as image
+use Rattle.image_reader.specs.Says.{HasTree, TellsTree}
+use Rattle.image_reader.specs.declared.fault.ImageFault.{ImageFault}
+use Rattle.image_reader.specs.declared.fault.ImageFault.TheVariants.{OtherKind, Read}
+use Rattle.rx_store.specs.declared.read_fault.ReadFault.TheVariants as read
 use Rattle.redact_cmd.specs.Stages.{status_of_rules, status_of_reading, status_of_planning}
-use Rattle.redact_cmd.proofs.Says.{NamesGuarded, NamesLimit}
+use Rattle.redact_cmd.proofs.Says.{refuses, NamesGuarded, NamesLimit}
 
 -- ---- the rules
 
@@ -40,7 +40,7 @@ rules_say None told before now W P fault other = tt
 rules_say (Some t) None before now W P fault other = tt
 rules_say (Some t) (Some h) before now W P rules.OtherForm other =
     let none = other refl in
-    (λ found tree forms. none found forms.reads, λ says. absurd (none says.0 says.1))
+    (inl none, λ says. absurd (none says.0 says.1))
 rules_say (Some t) (Some h) before now W P rules.Source other = tt
 rules_say (Some t) (Some h) before now W P rules.NoMemory other = tt
 
@@ -66,40 +66,43 @@ journal_open (Some t) (Some h) before now W P rules reads stands = ((rules, read
 
 -- ---- the image
 
-reading_says : (text : Option (List ℕ)) (told : Option Held) (before now : State) (W P : List ℕ → Type 0) (rules : List Rule) (fault : FirstReadFault) → IfSome text (λ t. Reads t rules)
-    → IsUntouched before now → IfSome told (λ h. ¬ (IsOpen h.journal)) → IfSome told (λ h. GivesTree (Err fault) (first_tree h.image))
+reading_says : (text : Option (List ℕ)) (told : Option Held) (before now : State) (W P : List ℕ → Type 0) (rules : List Rule) (fault : ImageFault) → IfSome text (λ t. Reads t rules)
+    → IsUntouched before now → IfSome told (λ h. ¬ (IsOpen h.journal)) → IfSome told (λ h. TellsTree (Err fault) h.image)
     → IfTextAndHeld text told (λ t h. RedactSays (status_of_reading fault) t h before now W P)
-reading_says None told before now W P rules fault reads untouched closed gives = tt
-reading_says (Some t) None before now W P rules fault reads untouched closed gives = tt
-reading_says (Some t) (Some h) before now W P rules image.Device reads untouched closed gives = ((rules, reads), inl untouched)
-reading_says (Some t) (Some h) before now W P rules image.NoMemory reads untouched closed gives = tt
-reading_says (Some t) (Some h) before now W P rules image.OtherForm reads untouched closed gives =
-    (λ found tree forms. let both = sym gives ∙ forms.tree_is in cc, λ says. closed)
+reading_says None told before now W P rules fault reads untouched closed tells = tt
+reading_says (Some t) None before now W P rules fault reads untouched closed tells = tt
+reading_says (Some t) (Some h) before now W P rules OtherKind reads untouched closed tells = (inr tells, λ says. closed)
+reading_says (Some t) (Some h) before now W P rules (Read read.Device) reads untouched closed tells = ((rules, reads), inl untouched)
+reading_says (Some t) (Some h) before now W P rules (Read read.NoMemory) reads untouched closed tells = tt
+reading_says (Some t) (Some h) before now W P rules (Read read.NotThis) reads untouched closed tells = (refuses t h.image rules _ reads tells, closed)
+reading_says (Some t) (Some h) before now W P rules (Read (read.Damaged sort place)) reads untouched closed tells = (refuses t h.image rules _ reads tells, closed)
+reading_says (Some t) (Some h) before now W P rules (Read (read.Unsupported what place)) reads untouched closed tells = (refuses t h.image rules _ reads tells, closed)
+reading_says (Some t) (Some h) before now W P rules (Read (read.Limit bound number)) reads untouched closed tells = (inl (refuses t h.image rules _ reads tells), closed)
 
-pub no_tree : (text : Option (List ℕ)) (told : Option Held) (before now : State) (W P : List ℕ → Type 0) (rules : List Rule) (fault : FirstReadFault) (status : Status)
+pub no_tree : (text : Option (List ℕ)) (told : Option Held) (before now : State) (W P : List ℕ → Type 0) (rules : List Rule) (fault : ImageFault) (status : Status)
     → status ≡ status_of_reading fault → IfSome text (λ t. Reads t rules)
-    → IsUntouched before now → IfSome told (λ h. ¬ (IsOpen h.journal)) → IfSome told (λ h. GivesTree (Err fault) (first_tree h.image))
+    → IsUntouched before now → IfSome told (λ h. ¬ (IsOpen h.journal)) → IfSome told (λ h. TellsTree (Err fault) h.image)
     → IfTextAndHeld text told (λ t h. RedactSays status t h before now W P)
-no_tree text told before now W P rules fault status is reads untouched closed gives =
-    subst (λ status. IfTextAndHeld text told (λ t h. RedactSays status t h before now W P)) (sym is) (reading_says text told before now W P rules fault reads untouched closed gives)
+no_tree text told before now W P rules fault status is reads untouched closed tells =
+    subst (λ status. IfTextAndHeld text told (λ t h. RedactSays status t h before now W P)) (sym is) (reading_says text told before now W P rules fault reads untouched closed tells)
 
 -- ---- the plan
 
 planning_says : (text : Option (List ℕ)) (told : Option Held) (before now : State) (W P : List ℕ → Type 0) (rules : List Rule) (tree : TreeValue) (fault : PlanFault)
-    → IfSome text (λ t. Reads t rules) → IfSome told (λ h. ¬ (IsOpen h.journal)) → IfSome told (λ h. first_tree h.image ≡ Ok tree)
+    → IfSome text (λ t. Reads t rules) → IfSome told (λ h. ¬ (IsOpen h.journal)) → IfSome told (λ h. HasTree h.image (Ok tree))
     → NamesGuarded tree rules fault → NamesLimit tree rules fault → IfTextAndHeld text told (λ t h. RedactSays (status_of_planning fault) t h before now W P)
 planning_says None told before now W P rules tree fault reads closed tree_is guarded limit = tt
 planning_says (Some t) None before now W P rules tree fault reads closed tree_is guarded limit = tt
 planning_says (Some t) (Some h) before now W P rules tree (plan.MeetsGuard at rule) reads closed tree_is guarded limit =
     let meets = guarded at rule refl in
-    ((rules, tree, record { reads = reads; tree_is = tree_is }, meets.0, meets.1), closed)
+    ((rules, tree, record { reads = reads; no_other = tree_is.0; tree_is = tree_is.1 }, meets.0, meets.1), closed)
 planning_says (Some t) (Some h) before now W P rules tree (plan.Limit bound number) reads closed tree_is guarded limit =
     let passed = limit bound number refl in
-    ((rules, tree, record { reads = reads; tree_is = tree_is }, passed.0, passed.1, passed.2), closed)
+    (inr (rules, tree, record { reads = reads; no_other = tree_is.0; tree_is = tree_is.1 }, passed.0, passed.1, passed.2), closed)
 planning_says (Some t) (Some h) before now W P rules tree plan.NoMemory reads closed tree_is guarded limit = tt
 
 pub no_plan : (text : Option (List ℕ)) (told : Option Held) (before now : State) (W P : List ℕ → Type 0) (rules : List Rule) (tree : TreeValue) (fault : PlanFault) (status : Status)
-    → status ≡ status_of_planning fault → IfSome text (λ t. Reads t rules) → IfSome told (λ h. ¬ (IsOpen h.journal)) → IfSome told (λ h. first_tree h.image ≡ Ok tree)
+    → status ≡ status_of_planning fault → IfSome text (λ t. Reads t rules) → IfSome told (λ h. ¬ (IsOpen h.journal)) → IfSome told (λ h. HasTree h.image (Ok tree))
     → NamesGuarded tree rules fault → NamesLimit tree rules fault → IfTextAndHeld text told (λ t h. RedactSays status t h before now W P)
 no_plan text told before now W P rules tree fault status is reads closed tree_is guarded limit =
     subst (λ status. IfTextAndHeld text told (λ t h. RedactSays status t h before now W P)) (sym is) (planning_says text told before now W P rules tree fault reads closed tree_is guarded limit)
@@ -115,9 +118,9 @@ sized_plan tree rules plan size is sized = sym sized ∙ sym (plan_len tree rule
 -- ---- the session
 
 planned : (t : List ℕ) (h : Held) (rules : List Rule) (tree : TreeValue) (plan : Plan) → plan ≡ plan_of tree rules → IsPlan plan → Reads t rules → ¬ (IsOpen h.journal)
-    → first_tree h.image ≡ Ok tree → guarded_byte tree rules ≡ None → IsPlanned t h rules tree
+    → HasTree h.image (Ok tree) → guarded_byte tree rules ≡ None → IsPlanned t h rules tree
 planned t h rules tree plan is is_plan reads closed tree_is unguarded = record {
-  forms = record { reads = reads; tree_is = tree_is };
+  forms = record { reads = reads; no_other = tree_is.0; tree_is = tree_is.1 };
   closed = closed;
   unguarded = unguarded;
   few_ranges = subst (λ (plan : Plan). length plan.ranges ≤ MAX_RANGES) is is_plan.few_ranges;
@@ -130,7 +133,7 @@ session_calls plan session is = ap (λ (session : SessionValue). changes_of (cal
 pub redact_stopped : (text : Option (List ℕ)) (told : Option Held) (before synced now : State) (W P : List ℕ → Type 0) (rules : List Rule) (tree : TreeValue) (plan : Plan) (session : SessionValue)
     → plan ≡ plan_of tree rules → IsPlan plan → session ≡ new_session plan Begun None → synced ≡ state_after Sync before
     → IsStopped (changes_of (calls_of session.plan session.start)) synced now → IfSome text (λ t. Reads t rules) → IfSome told (λ h. ¬ (IsOpen h.journal))
-    → IfSome told (λ h. first_tree h.image ≡ Ok tree) → guarded_byte tree rules ≡ None → IfTextAndHeld text told (λ t h. RedactSays DeviceFault t h before now W P)
+    → IfSome told (λ h. HasTree h.image (Ok tree)) → guarded_byte tree rules ≡ None → IfTextAndHeld text told (λ t h. RedactSays DeviceFault t h before now W P)
 redact_stopped None told before synced now W P rules tree plan session plan_is is_plan session_is is stopped reads closed tree_is unguarded = tt
 redact_stopped (Some t) None before synced now W P rules tree plan session plan_is is_plan session_is is stopped reads closed tree_is unguarded = tt
 redact_stopped (Some t) (Some h) before synced now W P rules tree plan session plan_is is_plan session_is is stopped reads closed tree_is unguarded =
@@ -147,7 +150,7 @@ redact_stopped (Some t) (Some h) before synced now W P rules tree plan session p
 pub redacted : (text : Option (List ℕ)) (told : Option Held) (before synced now : State) (W : List ℕ → Type 0) (rules : List Rule) (tree : TreeValue) (plan : Plan) (session : SessionValue) (size : ℕ)
     → held before ≡ told → plan ≡ plan_of tree rules → IsPlan plan → session ≡ new_session plan Begun None → synced ≡ state_after Sync before
     → now ≡ state_after_all (changes_of (calls_of session.plan session.start)) synced → IfSome text (λ t. Reads t rules) → IfSome told (λ h. ¬ (IsOpen h.journal))
-    → IfSome told (λ h. first_tree h.image ≡ Ok tree) → guarded_byte tree rules ≡ None → IfSome told (λ h. length h.image ≡ size) → size ≡ plan.image_len
+    → IfSome told (λ h. HasTree h.image (Ok tree)) → guarded_byte tree rules ≡ None → IfSome told (λ h. length h.image ≡ size) → size ≡ plan.image_len
     → W (report plan state.Done) → IfTextAndHeld text told (λ t h. HasRedacted t h before now W)
 redacted None told before synced now W rules tree plan session size told_is plan_is is_plan session_is is done reads closed tree_is unguarded sized fits wrote = tt
 redacted (Some t) None before synced now W rules tree plan session size told_is plan_is is_plan session_is is done reads closed tree_is unguarded sized fits wrote = tt

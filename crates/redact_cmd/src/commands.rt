@@ -27,8 +27,12 @@ use std::alloc::Global;
 ///
 /// `plan IMAGE RULES` reads the rule text to its end and then the image, and writes the report of their plan.
 /// `redact IMAGE JOURNAL RULES` carries that plan out through the journal, and writes its report; `resume IMAGE JOURNAL` finishes the
-/// plan of a journal that stands open; `report JOURNAL` writes the report of such a plan. Rule texts and images are read in the
-/// first form alone; every other form, and every other command, is `NotBuilt`. Words that fit no command are `Usage`.
+/// plan of a journal that stands open; `report JOURNAL` writes the report of such a plan. Rule texts are read in the first form
+/// alone, and images are UFS volumes; every other form of a text, images of NTFS and HFS+, and every other command are `NotBuilt`.
+/// Words that fit no command are `Usage`.
+///
+/// An image with no file system that is known is `NotRecognised`, one that is damaged `Damaged`, one with a value that isn't
+/// read `Unsupported`, and one that has more of something than is counted `Limit`, each with the place in the image or the limit.
 ///
 /// `DeviceFault`, `SourceFault` and `SinkFault` come only where the store, the source or the sink failed in this call;
 /// `NoMemory` where memory ran out. After `SinkFault` the sink took some first bytes of the report, and after every

@@ -8,7 +8,7 @@ ghost use Rattle.cmd_defs.specs.PlanCommand.{SaysRules, PlanSays};
 
 use crate::status::{status_of_planning, status_of_reading, status_of_rules};
 use cmd_defs::Status;
-use first_reader::read_tree;
+use image_reader::read_image;
 use rule_parse::read_rules;
 use rx_plan::make_plan;
 use rx_report::write_report;
@@ -42,7 +42,7 @@ pub(crate) fn plan<S: Store, R: Source, K: Sink>(
         Ok(rules) => rules,
         Err(fault) => return status_of_rules(fault),
     };
-    let tree = match read_tree(alloc, store) {
+    let tree = match read_image(alloc, store) {
         Ok(tree) => tree,
         Err(fault) => return status_of_reading(fault),
     };

@@ -11,7 +11,7 @@ ghost use Rattle.cmd_defs.specs.RedactCommand.{RedactSays};
 
 use crate::status::{status_of_planning, status_of_reading, status_of_rules};
 use cmd_defs::Status;
-use first_reader::read_tree;
+use image_reader::read_image;
 use journal_format::stands_open;
 use redo_session::{Session, finish};
 use rule_parse::read_rules;
@@ -55,7 +55,7 @@ pub(crate) fn redact<S: Store, R: Source, K: Sink>(
         Ok(false) => {}
         Err(_) => return Status::DeviceFault,
     }
-    let tree = match read_tree(alloc, store) {
+    let tree = match read_image(alloc, store) {
         Ok(tree) => tree,
         Err(fault) => return status_of_reading(fault),
     };

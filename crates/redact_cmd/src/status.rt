@@ -3,16 +3,16 @@ ghost use Rattle.std.specs.Prelude.{◌≡◌, ◌≤◌, length, OnOk, OnErr};
 ghost use Rattle.disk_defs.specs.Count.{IsCounted};
 ghost use Rattle.disk_defs.specs.Stream.{taken_with, TookPrefixOf};
 ghost use Rattle.redact_cmd.specs.Stages.{status_of_rules, status_of_reading, status_of_journal, status_of_planning};
-ghost use Rattle.cmd_defs.specs.Status.{status_line, refusal_line, journal_line, limit_line, bound_name, plain_text};
+ghost use Rattle.cmd_defs.specs.Status.{status_line, damage_line, sort_name, unsupported_line, value_name, refusal_line, journal_line, limit_line, bound_name, plain_text};
 
 use arrayvec::ArrayString;
 use cmd_defs::{JournalRefusal, PlanRefusal, Status};
-use first_reader::FirstReadFault;
+use image_reader::ImageFault;
 use itoa::Buffer;
 use journal_format::JournalFault;
 use rule_parse::RuleFault;
 use rx_plan::PlanFault;
-use rx_store::{Bound, Fault, Sink, write_all};
+use rx_store::{Bound, Fault, ReadFault, Sink, Sort, What, write_all};
 
 /// The status of a fault of reading the rules.
 pub(crate) fn status_of_rules(fault: RuleFault) -> Status
@@ -26,13 +26,17 @@ pub(crate) fn status_of_rules(fault: RuleFault) -> Status
 }
 
 /// The status of a fault of reading the image.
-pub(crate) fn status_of_reading(fault: FirstReadFault) -> Status
+pub(crate) fn status_of_reading(fault: ImageFault) -> Status
     ensures { result ≡ status_of_reading fault }
 {
     match fault {
-        FirstReadFault::Device => Status::DeviceFault,
-        FirstReadFault::NoMemory => Status::NoMemory,
-        FirstReadFault::OtherForm => Status::NotBuilt,
+        ImageFault::OtherKind => Status::NotBuilt,
+        ImageFault::Read(ReadFault::Device) => Status::DeviceFault,
+        ImageFault::Read(ReadFault::NoMemory) => Status::NoMemory,
+        ImageFault::Read(ReadFault::NotThis) => Status::NotRecognised,
+        ImageFault::Read(ReadFault::Damaged(sort, place)) => Status::Damaged(sort, place),
+        ImageFault::Read(ReadFault::Unsupported(what, place)) => Status::Unsupported(what, place),
+        ImageFault::Read(ReadFault::Limit(bound, number)) => Status::Limit(bound, number),
     }
 }
 
@@ -77,6 +81,89 @@ pub fn write_status<K: Sink>(status: &Status, sink: &mut K) -> Result<(), Fault>
 const LINE: usize = 160;
 
 type Line = ArrayString<LINE>;
+
+/// The name of a sort of damage.
+#[tactic(auto, unfolding(cmd_defs::specs::Status::sort_name))]
+fn name_of_sort(sort: Sort) -> &'static str
+    ensures name { result.now ≡ sort_name sort }
+    ensures short { length result.now ≤ 16 }
+{
+    match sort {
+        Sort::BootField => "BootField",
+        Sort::RecordMagic => "RecordMagic",
+        Sort::MftHole => "MftHole",
+        Sort::RecordField => "RecordField",
+        Sort::Fixup => "Fixup",
+        Sort::RunList => "RunList",
+        Sort::RunCount => "RunCount",
+        Sort::SegmentGap => "SegmentGap",
+        Sort::Sizes => "Sizes",
+        Sort::ListEntry => "ListEntry",
+        Sort::AttributeMissing => "AttributeMissing",
+        Sort::MftMap => "MftMap",
+        Sort::BadName => "BadName",
+        Sort::SuperField => "SuperField",
+        Sort::RootKind => "RootKind",
+        Sort::InodeNumber => "InodeNumber",
+        Sort::DeadInode => "DeadInode",
+        Sort::FileSize => "FileSize",
+        Sort::BlockPointer => "BlockPointer",
+        Sort::DirSize => "DirSize",
+        Sort::DirEntry => "DirEntry",
+        Sort::DirTwice => "DirTwice",
+        Sort::HeaderField => "HeaderField",
+        Sort::ForkExtent => "ForkExtent",
+        Sort::ForkSum => "ForkSum",
+        Sort::TreeHeader => "TreeHeader",
+        Sort::NodeLink => "NodeLink",
+        Sort::NodeRecord => "NodeRecord",
+        Sort::CatalogRecord => "CatalogRecord",
+        Sort::ExtentsRecord => "ExtentsRecord",
+        Sort::CatalogTwice => "CatalogTwice",
+        Sort::FolderMissing => "FolderMissing",
+    }
+}
+
+/// The line that says what is wrong with an image.
+#[tactic(auto, unfolding(cmd_defs::specs::Status::damage_line))]
+fn line_of_damage(sort: Sort, place: u64) -> Line
+    ensures { result.bytes ≡ damage_line sort place }
+{
+    let mut line = Line::new();
+    line.push_str("dfredact: damaged: ");
+    line.push_str(name_of_sort(sort));
+    line.push_str(" at ");
+    line.push_str(Buffer::new().format(place));
+    line.push_str("\n");
+    line
+}
+
+/// The name of what isn't supported.
+#[tactic(auto, unfolding(cmd_defs::specs::Status::value_name))]
+fn name_of_value(what: What) -> &'static str
+    ensures name { result.now ≡ value_name what }
+    ensures short { length result.now ≤ 12 }
+{
+    match what {
+        What::BootGeometry => "BootGeometry",
+        What::Snapshot => "Snapshot",
+        What::ExtentsFork => "ExtentsFork",
+    }
+}
+
+/// The line that says what of an image isn't supported.
+#[tactic(auto, unfolding(cmd_defs::specs::Status::unsupported_line))]
+fn line_of_unsupported(what: What, place: u64) -> Line
+    ensures { result.bytes ≡ unsupported_line what place }
+{
+    let mut line = Line::new();
+    line.push_str("dfredact: unsupported: ");
+    line.push_str(name_of_value(what));
+    line.push_str(" at ");
+    line.push_str(Buffer::new().format(place));
+    line.push_str("\n");
+    line
+}
 
 /// The line that says a refusal of a plan.
 #[tactic(auto, unfolding(cmd_defs::specs::Status::refusal_line))]
@@ -164,14 +251,19 @@ fn text_of(status: &Status) -> &'static str
         Status::Usage => {
             "usage: inventory IMAGE, plan IMAGE RULES, redact IMAGE JOURNAL RULES, resume IMAGE JOURNAL, report JOURNAL, selftest KIND NUMBER FILES"
         }
+        Status::NotRecognised => "no file system recognised",
         Status::JournalOpen => "journal already holds a plan",
         Status::DeviceFault => "image or journal failed",
         Status::SourceFault => "rule text failed",
         Status::SinkFault => "output failed",
         Status::NoMemory => "out of memory",
         Status::NotBuilt => "not built yet",
-        Status::Done | Status::PlanRefused(_) | Status::JournalRefused(_) | Status::Limit(_, _) =>
-            "",
+        Status::Done
+        | Status::Damaged(_, _)
+        | Status::Unsupported(_, _)
+        | Status::PlanRefused(_)
+        | Status::JournalRefused(_)
+        | Status::Limit(_, _) => "",
     }
 }
 
@@ -183,6 +275,8 @@ fn line_of(status: &Status) -> Line
     let mut line = Line::new();
     match status {
         Status::Done => return line,
+        Status::Damaged(sort, place) => return line_of_damage(*sort, *place),
+        Status::Unsupported(what, place) => return line_of_unsupported(*what, *place),
         Status::PlanRefused(refusal) => return line_of_refusal(*refusal),
         Status::JournalRefused(refusal) => return line_of_journal(*refusal),
         Status::Limit(bound, number) => return line_of_limit(*bound, *number),
@@ -207,6 +301,21 @@ mod tests {
         let table = [
             (Status::Done, 0, ""),
             (Status::Usage, 2, usage),
+            (
+                Status::NotRecognised,
+                3,
+                "dfredact: no file system recognised\n",
+            ),
+            (
+                Status::Damaged(Sort::DirTwice, 81956),
+                4,
+                "dfredact: damaged: DirTwice at 81956\n",
+            ),
+            (
+                Status::Unsupported(What::Snapshot, 74584),
+                5,
+                "dfredact: unsupported: Snapshot at 74584\n",
+            ),
             (
                 Status::DeviceFault,
                 10,

@@ -1,6 +1,6 @@
 -- The kinds of file systems that are told by their magic and aren't read yet. A place that the image lacks, or that passes its end,
 -- fits no magic.
-use Rattle.std.specs.Prelude.{ℕ, Bool, ◌&&◌, ◌||◌, if◌then◌else◌, Option, Some, None, List, [], ◌∷◌}
+use Rattle.std.specs.Prelude.{◌≢◌, ℕ, Bool, ◌&&◌, ◌||◌, if◌then◌else◌, Option, Some, None, List, [], ◌∷◌}
 use Rattle.std.specs.Str.{bytes_eq}
 use Rattle.bytes_defs.specs.Bytes.{part}
 use Rattle.rx_tree.specs.declared.volume.FsKind.{FsKind}
@@ -21,3 +21,7 @@ kind_of_magics name mark signature = if is_ntfs name mark then Some Ntfs else (i
 -- the kind of an image, where it is one of the two
 unfoldable pub other_kind : List ℕ → Option FsKind
 other_kind image = kind_of_magics (part image 3 8) (part image 510 2) (part image 1024 4)
+
+-- an image is of a kind that isn't read yet
+abbrev pub IsOtherKind : List ℕ → Type 0
+IsOtherKind image = other_kind image ≢ None

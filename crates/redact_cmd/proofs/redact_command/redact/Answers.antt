@@ -4,8 +4,7 @@ use Rattle.journal_format.specs.Says.{TellsIfOpen}
 use Rattle.disk_defs.specs.Stream.{taken_with, TookPrefixOf}
 use Rattle.disk_defs.specs.declared.Area.TheVariants.{Image, Journal}
 use Rattle.journal_defs.specs.Form.{IsOpen}
-use Rattle.volume_defs.specs.FirstTree.{first_tree}
-use Rattle.first_reader.specs.Gives.{GivesTree}
+use Rattle.image_reader.specs.Says.{HasTree, TellsTree}
 use Rattle.cmd_defs.proofs.StoreLaws.{of_area, of_synced}
 use Rattle.redact_cmd.proofs.Redacting.{no_rules, failed_before, journal_open, no_tree, no_plan, sized_plan, begun_sizes, redact_stopped, redacted}
 use Rattle.redact_cmd.proofs.redact_command.redact.Goals as goal
@@ -31,15 +30,15 @@ returns-in-Err-stands_open-clause-says g c =
     failed_before _ (held before) before (g.S.Store.state c.stands_open.new.store) (λ text. Unit {0}) (λ text. Unit {0}) c.in-Ok.rules c.in-Ok.ensures.read
     (inr (c.in-Err-stands_open.ensures.same ∙ c.in-Ok-sync.ensures.done))
 
-pub returns-in-Err-read_tree-clause-says : goal.returns-in-Err-read_tree-clause-says
-returns-in-Err-read_tree-clause-says g c =
+pub returns-in-Err-read_image-clause-says : goal.returns-in-Err-read_image-clause-says
+returns-in-Err-read_image-clause-says g c =
     let before = g.S.Store.state c.args.store.now in
     let is = c.in-Ok-false.ensures.same ∙ c.in-Ok-sync.ensures.done in
-    no_tree _ (held before) before (g.S.Store.state c.read_tree.new.store) _ _ c.in-Ok.rules c.in-Err-read_tree.fault c.status_of_reading.result
-    c.status_of_reading.ensures c.in-Ok.ensures.read (inr (c.in-Err-read_tree.ensures.same ∙ is))
+    no_tree _ (held before) before (g.S.Store.state c.read_image.new.store) _ _ c.in-Ok.rules c.in-Err-read_image.fault c.status_of_reading.result
+    c.status_of_reading.ensures c.in-Ok.ensures.read (inr (c.in-Err-read_image.ensures.same ∙ is))
     (of_synced Journal before (g.S.Store.state c.sync.new.self) (λ bytes. ¬ (IsOpen bytes)) c.in-Ok-sync.ensures.done
     (subst (λ answer. IfSome (told_journal (g.S.Store.state c.sync.new.self)) (TellsIfOpen answer)) c.in-Ok-false.field-0-test c.in-Ok-false.ensures.told))
-    (of_synced Image before (g.S.Store.state c.stands_open.new.store) (λ image. GivesTree (Err c.in-Err-read_tree.fault) (first_tree image)) is c.in-Err-read_tree.ensures.told)
+    (of_synced Image before (g.S.Store.state c.stands_open.new.store) (λ image. TellsTree (Err c.in-Err-read_image.fault) image) is c.in-Err-read_image.ensures.told)
 
 pub returns-in-Err-make_plan-clause-says : goal.returns-in-Err-make_plan-clause-says
 returns-in-Err-make_plan-clause-says g c =
@@ -47,17 +46,17 @@ returns-in-Err-make_plan-clause-says g c =
     let is = c.in-Ok-false.ensures.same ∙ c.in-Ok-sync.ensures.done in
     let closed = of_synced Journal before (g.S.Store.state c.sync.new.self) (λ bytes. ¬ (IsOpen bytes)) c.in-Ok-sync.ensures.done
     (subst (λ answer. IfSome (told_journal (g.S.Store.state c.sync.new.self)) (TellsIfOpen answer)) c.in-Ok-false.field-0-test c.in-Ok-false.ensures.told) in
-    let tree_is = of_synced Image before (g.S.Store.state c.stands_open.new.store) (λ image. first_tree image ≡ Ok c.in-Ok-read_tree.tree) is c.in-Ok-read_tree.ensures.told in
-    no_plan _ (held before) before (g.S.Store.state c.make_plan.new.store) _ _ c.in-Ok.rules c.in-Ok-read_tree.tree c.in-Err-make_plan.fault c.status_of_planning.result
+    let tree_is = of_synced Image before (g.S.Store.state c.stands_open.new.store) (λ image. HasTree image (Ok c.in-Ok-read_image.tree)) is c.in-Ok-read_image.ensures.told in
+    no_plan _ (held before) before (g.S.Store.state c.make_plan.new.store) _ _ c.in-Ok.rules c.in-Ok-read_image.tree c.in-Err-make_plan.fault c.status_of_planning.result
     c.status_of_planning.ensures c.in-Ok.ensures.read closed tree_is
     (λ at rule given. c.in-Err-make_plan.ensures.guarded at rule (ap Err given)) (λ bound number given. c.in-Err-make_plan.ensures.limit bound number (ap Err given))
 
 pub finish-requires-clause-sizes : goal.finish-requires-clause-sizes
 finish-requires-clause-sizes g c =
-    let planned : g.S.Store.state c.make_plan.new.store ≡ g.S.Store.state c.read_tree.new.store = ap g.S.Store.state c.in-Ok-make_plan.ensures.idle in
+    let planned : g.S.Store.state c.make_plan.new.store ≡ g.S.Store.state c.read_image.new.store = ap g.S.Store.state c.in-Ok-make_plan.ensures.idle in
     begun_sizes c.in-Ok-make_plan.plan c.in-Ok-begin.session (g.S.Store.state c.make_plan.new.store) c.in-Ok-begin.ensures
-    (sized_plan c.in-Ok-read_tree.tree c.in-Ok.rules c.in-Ok-make_plan.plan (size_of Image (g.S.Store.state c.make_plan.new.store)) c.in-Ok-make_plan.ensures.plan
-    (c.in-Ok-read_tree.ensures.sized ∙ ap (size_of Image) (sym (planned ∙ c.in-Ok-read_tree.ensures.same))))
+    (sized_plan c.in-Ok-read_image.tree c.in-Ok.rules c.in-Ok-make_plan.plan (size_of Image (g.S.Store.state c.make_plan.new.store)) c.in-Ok-make_plan.ensures.plan
+    (c.in-Ok-read_image.ensures.sized ∙ ap (size_of Image) (sym (planned ∙ c.in-Ok-read_image.ensures.same))))
 
 pub returns-in-Err-finish-clause-says : goal.returns-in-Err-finish-clause-says
 returns-in-Err-finish-clause-says g c =
@@ -65,10 +64,10 @@ returns-in-Err-finish-clause-says g c =
     let is = c.in-Ok-false.ensures.same ∙ c.in-Ok-sync.ensures.done in
     let closed = of_synced Journal before (g.S.Store.state c.sync.new.self) (λ bytes. ¬ (IsOpen bytes)) c.in-Ok-sync.ensures.done
     (subst (λ answer. IfSome (told_journal (g.S.Store.state c.sync.new.self)) (TellsIfOpen answer)) c.in-Ok-false.field-0-test c.in-Ok-false.ensures.told) in
-    let tree_is = of_synced Image before (g.S.Store.state c.stands_open.new.store) (λ image. first_tree image ≡ Ok c.in-Ok-read_tree.tree) is c.in-Ok-read_tree.ensures.told in
-    let planned : g.S.Store.state c.make_plan.new.store ≡ g.S.Store.state c.read_tree.new.store = ap g.S.Store.state c.in-Ok-make_plan.ensures.idle in
-    let synced = planned ∙ c.in-Ok-read_tree.ensures.same ∙ is in
-    redact_stopped _ (held before) before (g.S.Store.state c.make_plan.new.store) (g.S.Store.state c.finish.new.store) (λ text. Unit {0}) (λ text. Unit {0}) c.in-Ok.rules c.in-Ok-read_tree.tree c.in-Ok-make_plan.plan c.in-Ok-begin.session
+    let tree_is = of_synced Image before (g.S.Store.state c.stands_open.new.store) (λ image. HasTree image (Ok c.in-Ok-read_image.tree)) is c.in-Ok-read_image.ensures.told in
+    let planned : g.S.Store.state c.make_plan.new.store ≡ g.S.Store.state c.read_image.new.store = ap g.S.Store.state c.in-Ok-make_plan.ensures.idle in
+    let synced = planned ∙ c.in-Ok-read_image.ensures.same ∙ is in
+    redact_stopped _ (held before) before (g.S.Store.state c.make_plan.new.store) (g.S.Store.state c.finish.new.store) (λ text. Unit {0}) (λ text. Unit {0}) c.in-Ok.rules c.in-Ok-read_image.tree c.in-Ok-make_plan.plan c.in-Ok-begin.session
     c.in-Ok-make_plan.ensures.plan c.in-Ok-make_plan.ensures.is_plan c.in-Ok-begin.ensures synced c.in-Err-finish.ensures.stopped c.in-Ok.ensures.read closed tree_is c.in-Ok-make_plan.ensures.unguarded
 
 pub returns-in-Ok-write_report-clause-says : goal.returns-in-Ok-write_report-clause-says
@@ -77,14 +76,14 @@ returns-in-Ok-write_report-clause-says g c =
     let is = c.in-Ok-false.ensures.same ∙ c.in-Ok-sync.ensures.done in
     let closed = of_synced Journal before (g.S.Store.state c.sync.new.self) (λ bytes. ¬ (IsOpen bytes)) c.in-Ok-sync.ensures.done
     (subst (λ answer. IfSome (told_journal (g.S.Store.state c.sync.new.self)) (TellsIfOpen answer)) c.in-Ok-false.field-0-test c.in-Ok-false.ensures.told) in
-    let tree_is = of_synced Image before (g.S.Store.state c.stands_open.new.store) (λ image. first_tree image ≡ Ok c.in-Ok-read_tree.tree) is c.in-Ok-read_tree.ensures.told in
-    let planned : g.S.Store.state c.make_plan.new.store ≡ g.S.Store.state c.read_tree.new.store = ap g.S.Store.state c.in-Ok-make_plan.ensures.idle in
-    let synced = planned ∙ c.in-Ok-read_tree.ensures.same ∙ is in
+    let tree_is = of_synced Image before (g.S.Store.state c.stands_open.new.store) (λ image. HasTree image (Ok c.in-Ok-read_image.tree)) is c.in-Ok-read_image.ensures.told in
+    let planned : g.S.Store.state c.make_plan.new.store ≡ g.S.Store.state c.read_image.new.store = ap g.S.Store.state c.in-Ok-make_plan.ensures.idle in
+    let synced = planned ∙ c.in-Ok-read_image.ensures.same ∙ is in
     let W : List ℕ → Type 0 = λ text. g.K.Sink.taken c.write_report.new.sink ≡ taken_with (g.K.Sink.taken c.args.out.now) text in
-    redacted _ (held before) before (g.S.Store.state c.make_plan.new.store) (g.S.Store.state c.finish.new.store) W c.in-Ok.rules c.in-Ok-read_tree.tree c.in-Ok-make_plan.plan c.in-Ok-begin.session (size_of Image before) refl
+    redacted _ (held before) before (g.S.Store.state c.make_plan.new.store) (g.S.Store.state c.finish.new.store) W c.in-Ok.rules c.in-Ok-read_image.tree c.in-Ok-make_plan.plan c.in-Ok-begin.session (size_of Image before) refl
     c.in-Ok-make_plan.ensures.plan c.in-Ok-make_plan.ensures.is_plan c.in-Ok-begin.ensures synced c.in-Ok-finish.ensures.done c.in-Ok.ensures.read closed tree_is c.in-Ok-make_plan.ensures.unguarded
     (of_area Image (held before) (λ bytes. length bytes ≡ size_of Image before) (g.met.S.Store.tells_its_sizes c.args.store.now Image))
-    (sized_plan c.in-Ok-read_tree.tree c.in-Ok.rules c.in-Ok-make_plan.plan (size_of Image before) c.in-Ok-make_plan.ensures.plan (c.in-Ok-read_tree.ensures.sized ∙ ap (size_of Image) is))
+    (sized_plan c.in-Ok-read_image.tree c.in-Ok.rules c.in-Ok-make_plan.plan (size_of Image before) c.in-Ok-make_plan.ensures.plan (c.in-Ok-read_image.ensures.sized ∙ ap (size_of Image) is))
     c.in-Ok-write_report.ensures.taken
 
 pub returns-clause-says : goal.returns-clause-says
@@ -93,12 +92,12 @@ returns-clause-says g c =
     let is = c.in-Ok-false.ensures.same ∙ c.in-Ok-sync.ensures.done in
     let closed = of_synced Journal before (g.S.Store.state c.sync.new.self) (λ bytes. ¬ (IsOpen bytes)) c.in-Ok-sync.ensures.done
     (subst (λ answer. IfSome (told_journal (g.S.Store.state c.sync.new.self)) (TellsIfOpen answer)) c.in-Ok-false.field-0-test c.in-Ok-false.ensures.told) in
-    let tree_is = of_synced Image before (g.S.Store.state c.stands_open.new.store) (λ image. first_tree image ≡ Ok c.in-Ok-read_tree.tree) is c.in-Ok-read_tree.ensures.told in
-    let planned : g.S.Store.state c.make_plan.new.store ≡ g.S.Store.state c.read_tree.new.store = ap g.S.Store.state c.in-Ok-make_plan.ensures.idle in
-    let synced = planned ∙ c.in-Ok-read_tree.ensures.same ∙ is in
+    let tree_is = of_synced Image before (g.S.Store.state c.stands_open.new.store) (λ image. HasTree image (Ok c.in-Ok-read_image.tree)) is c.in-Ok-read_image.ensures.told in
+    let planned : g.S.Store.state c.make_plan.new.store ≡ g.S.Store.state c.read_image.new.store = ap g.S.Store.state c.in-Ok-make_plan.ensures.idle in
+    let synced = planned ∙ c.in-Ok-read_image.ensures.same ∙ is in
     let W : List ℕ → Type 0 = TookPrefixOf (g.K.Sink.taken c.args.out.now) (g.K.Sink.taken c.write_report.new.sink) in
-    redacted _ (held before) before (g.S.Store.state c.make_plan.new.store) (g.S.Store.state c.finish.new.store) W c.in-Ok.rules c.in-Ok-read_tree.tree c.in-Ok-make_plan.plan c.in-Ok-begin.session (size_of Image before) refl
+    redacted _ (held before) before (g.S.Store.state c.make_plan.new.store) (g.S.Store.state c.finish.new.store) W c.in-Ok.rules c.in-Ok-read_image.tree c.in-Ok-make_plan.plan c.in-Ok-begin.session (size_of Image before) refl
     c.in-Ok-make_plan.ensures.plan c.in-Ok-make_plan.ensures.is_plan c.in-Ok-begin.ensures synced c.in-Ok-finish.ensures.done c.in-Ok.ensures.read closed tree_is c.in-Ok-make_plan.ensures.unguarded
     (of_area Image (held before) (λ bytes. length bytes ≡ size_of Image before) (g.met.S.Store.tells_its_sizes c.args.store.now Image))
-    (sized_plan c.in-Ok-read_tree.tree c.in-Ok.rules c.in-Ok-make_plan.plan (size_of Image before) c.in-Ok-make_plan.ensures.plan (c.in-Ok-read_tree.ensures.sized ∙ ap (size_of Image) is))
+    (sized_plan c.in-Ok-read_image.tree c.in-Ok.rules c.in-Ok-make_plan.plan (size_of Image before) c.in-Ok-make_plan.ensures.plan (c.in-Ok-read_image.ensures.sized ∙ ap (size_of Image) is))
     c.in-Err-write_report.ensures.prefix

@@ -1,0 +1,2 @@
+pub mod Magics
+pub mod Reading
