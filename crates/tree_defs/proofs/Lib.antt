@@ -1,3 +1,4 @@
 pub mod Footprint
 pub mod ImageLaws
+pub mod Refusals
 pub mod Rows

@@ -1,3 +1,4 @@
 pub mod Kind
 pub mod ImageTree
 pub mod Footprint
+pub mod Refusals

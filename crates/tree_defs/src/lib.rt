@@ -8,8 +8,8 @@
 //!     // an image of no bytes has the magic of no kind
 //!     image_tree [] ≡ Err NotThis
 //!
-//! The promised law of `laws`: an image of the same length with the same bytes in the guard has the same tree or refusal, the same
-//! guard and the same kind.
+//! The promised laws of `laws`: an image of the same length with the same bytes in the guard has the same tree or refusal, the same
+//! guard and the same kind; and what refuses an image is true of it, as rules say it.
 #![tactic(auto)]
 
 pub mod laws;
