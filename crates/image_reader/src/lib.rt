@@ -18,6 +18,8 @@ ghost use Rattle.image_reader.specs.Says.{IsImageCounted, TellsTree};
 
 mod fault;
 mod kind;
+#[cfg(test)]
+mod tests;
 mod ufs;
 
 pub use fault::ImageFault;
