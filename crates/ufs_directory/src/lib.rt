@@ -15,3 +15,6 @@ mod entry;
 
 pub use block::leading_entries;
 pub use entry::Entry;
+
+#[cfg(test)]
+mod tests;

@@ -8,11 +8,10 @@ use Rattle.image_defs.specs.Ask.{Ask, Done, Stop}
 use Rattle.fault_defs.specs.declared.Refusal.{Refusal}
 use Rattle.fault_defs.specs.declared.Refusal.TheVariants as refusal
 use Rattle.fault_defs.specs.declared.Bound.TheVariants.{Names, PathBytes, Path}
-use Rattle.rx_tree.specs.Within.{AreRangesWithin}
 use Rattle.rx_store.specs.Answers.{Answers}
 use Rattle.rx_store.specs.declared.read_fault.ReadFault.{ReadFault}
 use Rattle.rx_store.specs.declared.read_fault.ReadFault.TheVariants.{Device, NoMemory, NotThis, Damaged, Unsupported, Limit}
-use Rattle.image_reads.specs.Steps.{ReadsAs, IsRead}
+use Rattle.image_reads.specs.Steps.{EndBy, ReadsAs, IsRead}
 use Rattle.ufs_inode_defs.specs.declared.superblock.Super.{Super}
 use Rattle.ufs_volume_defs.specs.Names.{Named, Walk, counted_name, with_name, path_bytes, longest_path, most_names, most_path_bytes}
 use Rattle.ufs_names.specs.Walked.{IsNamed, IsWalked, KeptWithin, Settles, limited_path}
@@ -70,7 +69,7 @@ kept_on last first second third one two = λ end far all. two end far (one end f
 pub kept_one : (last : ℕ) (before after : List Range) (range : Range) → after ≡ before ++ range ∷ [] → range.at + range.len ≤ last → KeptWithin last before after
 kept_one last before after range is inside =
     λ end far all.
-    subst (λ ranges. AreRangesWithin end ranges) (sym is) (All-push (λ one. one.at + one.len ≤ end) before range all (omega arith))
+    subst (λ ranges. EndBy end ranges) (sym is) (All-push (λ one. one.at + one.len ≤ end) before range all (omega arith))
 
 pub kept_then : {X E : Type 0} (result : Result X E) (last : ℕ) (first second third : List Range) → KeptWithin last first second → OnOk result (KeptWithin last second third) → OnOk result (KeptWithin last first third)
 kept_then (Ok x) last first second third one two = kept_on last first second third one two

@@ -1,16 +1,14 @@
 -- What holds of a walk over every store, also one that tells nothing.
 use Rattle.std.specs.Prelude.{◌≡◌, ℕ, ◌+◌, ◌*◌, ◌<◌, ◌≤◌, true, All, nat_le, if◌then◌else◌, Some, Result, Ok, Err, List, length}
-use Rattle.range_defs.specs.declared.Range.{Range}
+pub use Rattle.image_reads.specs.Steps.{KeptWithin}
+pub use Rattle.ufs_blocks.specs.UnderWay.{Settles}
 use Rattle.rx_ranges.specs.Path.{IsPath}
 use Rattle.rx_ranges.specs.declared.pieces.Piece.{Piece}
 use Rattle.piece_defs.specs.Places.{place_through}
-use Rattle.rx_tree.specs.Within.{AreRangesWithin}
-use Rattle.image_defs.specs.Ask.{Ask, Done, Stop}
+use Rattle.image_defs.specs.Ask.{Done}
 use Rattle.fault_defs.specs.declared.Refusal.{Refusal}
 use Rattle.fault_defs.specs.declared.Refusal.TheVariants as refusal
 use Rattle.fault_defs.specs.declared.Bound.TheVariants.{Path}
-use Rattle.rx_store.specs.declared.read_fault.ReadFault.{ReadFault}
-use Rattle.rx_store.specs.declared.read_fault.ReadFault.TheVariants.{Device, NoMemory, NotThis, Damaged, Unsupported, Limit}
 use Rattle.ufs_inode_defs.specs.Superblock.{block_size, has_inode, inode_place}
 use Rattle.ufs_inode_defs.specs.Inode.{sound_inode}
 use Rattle.ufs_inode_defs.specs.Blocks.{most_runs}
@@ -37,10 +35,6 @@ pub record IsWalked (sup : Super) (walk : Walk) : Type 0 where
   pub short : path_bytes walk.names ≤ most_path_bytes
   pub runs : walk.runs ≤ most_runs
 
--- the ranges that are kept now end in a volume, if those of before did
-abbrev pub KeptWithin : ℕ → List Range → List Range → Type 0
-KeptWithin last before after = (end : ℕ) → last ≤ end → AreRangesWithin end before → AreRangesWithin end after
-
 -- a block of a content of so many bytes stands where pieces put its first byte
 pub record IsPlacedBlock (sup : Super) (size : ℕ) (pieces : List Piece) (block : Block) : Type 0 where
   pub begins : block.index * block_size sup < size
@@ -61,14 +55,3 @@ limited_path path = if nat_le (length path) longest_path then Ok path else Err (
 -- a name whose path isn't too long
 abbrev pub limited_name : Named → Result Named Refusal
 limited_name name = if nat_le (length name.path) longest_path then Ok name else Err (refusal.Limit Path longest_path)
-
--- What a step that reads nothing says of its program: it is done with the value, or stops with the refusal. A device and want
--- of memory say nothing.
-abbrev pub Settles : {X : Type 0} → Result X ReadFault → Ask Refusal X → Type 0
-Settles (Ok x) program = program ≡ Done x
-Settles (Err Device) program = Unit {0}
-Settles (Err NoMemory) program = Unit {0}
-Settles (Err NotThis) program = program ≡ Stop refusal.NotThis
-Settles (Err (Damaged sort place)) program = program ≡ Stop (refusal.Damaged sort place)
-Settles (Err (Unsupported what place)) program = program ≡ Stop (refusal.Unsupported what place)
-Settles (Err (Limit bound number)) program = program ≡ Stop (refusal.Limit bound number)

@@ -87,7 +87,7 @@ pub(crate) fn names_below<S: Store>(
     ensures same { S.state store.new ≡ S.state store.old }
     ensures counted { IsReadCounted Image result (S.faults store.old) (S.faults store.new) }
 {
-    for depth in 0..DEEPEST + 1 {
+    for _depth in 0..DEEPEST + 1 {
         if directories.items().is_empty() {
             return Ok(walk);
         }

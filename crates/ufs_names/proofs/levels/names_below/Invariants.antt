@@ -15,6 +15,6 @@ invariant-loop-depth g l = record {
   named : All (IsNamed l.sup) l.directories;
   come :
       IsCome (told_image (g.S.Store.state l.fn.store)) (names_below 1025 l.sup l.fn.walk l.fn.directories) l.fn.looked.items
-      (names_below (1025 - l.depth) l.sup l.walk l.directories) l.looked.items;
+      (names_below (1025 - l._depth) l.sup l.walk l.directories) l.looked.items;
   kept : KeptWithin (l.sup.at + l.sup.len) l.fn.looked.items l.looked.items;
 }
