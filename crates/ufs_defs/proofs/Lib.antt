@@ -1,4 +1,0 @@
-pub mod BlockLaws
-pub mod Entries
-pub mod SlackLaws
-pub mod SoundSuperblock
