@@ -5,7 +5,7 @@ use crate::small_image::{
     ENTRIES, FILE, ROOT, SUPERBLOCK, put, put_entry, put_inode, put_pointers, small_image,
 };
 use redact_cmd::{PlanRefusal, Status, run};
-use rx_store::{MemSink, MemSource, MemStore};
+use rx_store::{MemSink, MemSource, MemStore, Sort, What};
 use std::alloc::{AllocError, Global};
 use std::test::Fail;
 
@@ -103,7 +103,7 @@ fn a_rule_that_settles_nothing_plans_nothing(rt: HostRuntime) -> Result<(), Fail
 fn each_call_that_fails_is_answered(rt: HostRuntime) -> Result<(), Fail> {
     let alloc = rt.alloc();
     let plan = ["plan", "IMAGE", "RULES"];
-    for call in 1..=10 {
+    for call in 1..=11 {
         let troubles = Troubles {
             store: Some(call),
             source: None,
@@ -174,70 +174,165 @@ fn changed(alloc: Global, at: usize, bytes: &[u8]) -> Result<Vec<u8>, AllocError
     Ok(image)
 }
 
+const NOTHING_PLANNED: &[u8] = b"redaction planned\nimage 262144\nranges 0\nbytes 0\n";
+
+/// Whether the small image with these bytes at each of some places is refused so.
+fn are_all_refused(
+    alloc: Global,
+    changes: &[(usize, &[u8])],
+    status: Status,
+) -> Result<bool, AllocError> {
+    for (at, bytes) in changes {
+        let (found, text) = planned(alloc, changed(alloc, *at, bytes)?, RULE)?;
+        if found != status || !text.is_empty() {
+            return Ok(false);
+        }
+    }
+    Ok(true)
+}
+
 #[test]
-fn images_of_another_form_are_not_built(rt: HostRuntime) -> Result<(), Fail> {
+fn a_wrong_superblock_is_damage(rt: HostRuntime) -> Result<(), Fail> {
     let alloc = rt.alloc();
-    for (at, bytes) in [
-        // fields of the superblock: iblkno, ncg, bsize, fsize, frag, nindir, inopb, ipg, fpg and the magic
-        (SUPERBLOCK + 16, b"\xFF\xFF\xFF\xFF".as_slice()),
-        (SUPERBLOCK + 16, b"\xFF\xFF\xFF\x7F"),
-        (SUPERBLOCK + 44, b"\x00\x00\x00\x00"),
-        (SUPERBLOCK + 44, b"\xFF\xFF\xFF\xFF"),
-        (SUPERBLOCK + 48, b"\x00\x00\x00\x80"),
-        (SUPERBLOCK + 52, b"\x00\x02\x00\x00"),
-        (SUPERBLOCK + 56, b"\x08\x00\x00\x00"),
-        (SUPERBLOCK + 116, b"\x00\x00\x00\x00"),
-        (SUPERBLOCK + 120, b"\x00\x00\x00\x00"),
-        (SUPERBLOCK + 184, b"\x00\x00\x00\x00"),
-        (SUPERBLOCK + 188, b"\x00\x00\x00\x00"),
-        (SUPERBLOCK + 1372, b"\x00"),
-        // other magics that fit before: NTFS alone doesn't, as its second half is missing; HFS+ and UFS1 do
-        (1024, b"H+\x00\x04"),
-        (9564, b"\x54\x19\x01\x00"),
-        // the root: no directory, a snapshot, a size of 0, of no whole blocks, of more than a block, a pointer of 0
-        (ROOT, b"\xED\x81"),
-        (ROOT + 88, b"\x00\x00\x20\x00"),
-        (ROOT + 16, b"\x00\x00"),
-        (ROOT + 16, b"\x01\x02"),
-        (ROOT + 16, b"\x00\x12"),
-        (ROOT + 112, b"\x00"),
-        (ROOT + 112, b"\x40"),
-        // its entries: a length of 4, one past the block, an empty name, a slash in it, an inode past the groups
-        (ENTRIES + 4, b"\x04"),
-        (ENTRIES + 28, b"\xEC\x01"),
-        (ENTRIES + 31, b"\x00"),
-        (ENTRIES + 32, b"/"),
-        (ENTRIES + 24, b"\x10"),
-        (ENTRIES + 24, b"\x02"),
-        // the file: a directory, a snapshot, an extended area, a second block without a pointer, a pointer that is negative, that
-        // leads past the end, and that is 0
-        (FILE, b"\xA4\x41"),
-        (FILE + 88, b"\x00\x00\x20\x00"),
-        (FILE + 92, b"\x01"),
-        (FILE + 16, b"\x01\x10"),
-        (FILE + 16, b"\xFF\xFF\xFF\xFF\xFF\xFF\xFF\xFF"),
-        (FILE + 112, b"\xFF\xFF\xFF\xFF\xFF\xFF\xFF\xFF"),
-        (FILE + 112, b"\xFF\xFF\xFF\xFF\xFF\xFF\xFF\x7F"),
-        (FILE + 112, b"\x40"),
-        (FILE + 112, b"\x00"),
+    for (field, bytes) in [
+        (16u64, b"\xFF\xFF\xFF\xFF".as_slice()),
+        (44, b"\x00\x00\x00\x00"),
+        (44, b"\xFF\xFF\xFF\xFF"),
+        (48, b"\x00\x00\x00\x80"),
+        (56, b"\x08\x00\x00\x00"),
+        (116, b"\x00\x00\x00\x00"),
+        (120, b"\x00\x00\x00\x00"),
+        (184, b"\x00\x00\x00\x00"),
+        (188, b"\x00\x00\x00\x00"),
     ] {
-        let (status, text) = planned(alloc, changed(alloc, at, bytes)?, RULE)?;
-        assert_eq!(rt; status, Status::NotBuilt, "at {at}");
-        assert!(rt; text.is_empty());
+        let place = SUPERBLOCK + field as usize;
+        let status = Status::Damaged(Sort::SuperField, 65_536 + field);
+        assert!(rt; are_all_refused(alloc, &[(place, bytes)], status)?, "field {field}");
+    }
+    // fragments of 512 bytes aren't those of a block; UFS1's magic comes first; the inodes lie behind the end
+    let status = Status::Damaged(Sort::SuperField, 65_592);
+    assert!(rt; are_all_refused(alloc, &[(SUPERBLOCK + 52, b"\x00\x02\x00\x00")], status)?);
+    let status = Status::Damaged(Sort::SuperField, 8_240);
+    assert!(rt; are_all_refused(alloc, &[(9564, b"\x54\x19\x01\x00")], status)?);
+    let status = Status::Damaged(Sort::InodeNumber, 65_536);
+    assert!(rt; are_all_refused(alloc, &[(SUPERBLOCK + 16, b"\xFF\xFF\xFF\x7F")], status)?);
+    Ok(())
+}
+
+#[test]
+fn other_kinds_are_not_built_and_none_is_not_recognised(rt: HostRuntime) -> Result<(), Fail> {
+    let alloc = rt.alloc();
+    assert!(rt; are_all_refused(alloc, &[(1024, b"H+\x00\x04")], Status::NotBuilt)?);
+    assert!(rt; are_all_refused(alloc, &[(SUPERBLOCK + 1372, b"\x00")], Status::NotRecognised)?);
+    assert_eq!(rt; Status::NotRecognised.code(), 3);
+    Ok(())
+}
+
+#[test]
+fn a_wrong_root_is_damage(rt: HostRuntime) -> Result<(), Fail> {
+    let alloc = rt.alloc();
+    let kind = Status::Damaged(Sort::RootKind, 74_240);
+    assert!(rt; are_all_refused(alloc, &[(ROOT, b"\xED\x81")], kind)?);
+    // no whole blocks of 512 bytes, a second block that is a hole, and a first one
+    let size = Status::Damaged(Sort::DirSize, 74_256);
+    assert!(rt; are_all_refused(
+        alloc,
+        &[(ROOT + 16, b"\x01\x02"), (ROOT + 16, b"\x00\x12"), (ROOT + 112, b"\x00")],
+        size,
+    )?);
+    let pointer = Status::Damaged(Sort::BlockPointer, 74_352);
+    assert!(rt; are_all_refused(alloc, &[(ROOT + 112, b"\x40")], pointer)?);
+    // a length of 4, one past the block, and an empty name
+    let entry = Status::Damaged(Sort::DirEntry, 81_920);
+    assert!(rt; are_all_refused(alloc, &[(ENTRIES + 4, b"\x04")], entry)?);
+    let entry = Status::Damaged(Sort::DirEntry, 81_944);
+    assert!(rt; are_all_refused(alloc, &[(ENTRIES + 28, b"\xEC\x01"), (ENTRIES + 31, b"\x00")], entry)?);
+    // an inode past the groups, and the root once more
+    let number = Status::Damaged(Sort::InodeNumber, 81_944);
+    assert!(rt; are_all_refused(alloc, &[(ENTRIES + 24, b"\x10")], number)?);
+    let twice = Status::Damaged(Sort::DirTwice, 81_944);
+    assert!(rt; are_all_refused(alloc, &[(ENTRIES + 24, b"\x02")], twice)?);
+    let (status, _text) = planned(alloc, with_two_entries(alloc, 2)?, RULE)?;
+    assert_eq!(rt; status, Status::Damaged(Sort::DirTwice, 81_956));
+    assert_eq!(rt; status.code(), 4);
+    Ok(())
+}
+
+#[test]
+fn a_wrong_file_is_damage(rt: HostRuntime) -> Result<(), Fail> {
+    let alloc = rt.alloc();
+    // a directory of three bytes, and a size that no pointers reach
+    let size = Status::Damaged(Sort::DirSize, 74_512);
+    assert!(rt; are_all_refused(alloc, &[(FILE, b"\xA4\x41")], size)?);
+    let size = Status::Damaged(Sort::FileSize, 74_512);
+    let longest = b"\xFF\xFF\xFF\xFF\xFF\xFF\xFF\xFF";
+    assert!(rt; are_all_refused(alloc, &[(FILE + 16, longest)], size)?);
+    // pointers that are negative, that leave every image, and that leave this one
+    let pointer = Status::Damaged(Sort::BlockPointer, 74_608);
+    let greatest = b"\xFF\xFF\xFF\xFF\xFF\xFF\xFF\x7F";
+    assert!(rt; are_all_refused(
+        alloc,
+        &[(FILE + 112, longest), (FILE + 112, greatest), (FILE + 112, b"\x40")],
+        pointer,
+    )?);
+    let dead = Status::Damaged(Sort::DeadInode, 74_496);
+    assert!(rt; are_all_refused(alloc, &[(FILE, b"\x00\x00")], dead)?);
+    Ok(())
+}
+
+#[test]
+fn snapshots_are_not_supported(rt: HostRuntime) -> Result<(), Fail> {
+    let alloc = rt.alloc();
+    let flags = b"\x00\x00\x20\x00";
+    let root = Status::Unsupported(What::Snapshot, 74_328);
+    assert!(rt; are_all_refused(alloc, &[(ROOT + 88, flags)], root)?);
+    let file = Status::Unsupported(What::Snapshot, 74_584);
+    assert!(rt; are_all_refused(alloc, &[(FILE + 88, flags)], file)?);
+    assert_eq!(rt; file.code(), 5);
+    Ok(())
+}
+
+#[test]
+fn holes_and_other_names_are_read(rt: HostRuntime) -> Result<(), Fail> {
+    let alloc = rt.alloc();
+    let whole_block =
+        b"redaction planned\nimage 262144\nranges 1\nbytes 4096\nRANGE 86016 4096 1 0x58\nFILE 1 /a\n";
+    for (at, bytes, report) in [
+        // an empty root, and a name with a slash
+        (ROOT + 16, b"\x00\x00".as_slice(), NOTHING_PLANNED),
+        (ENTRIES + 32, b"/", NOTHING_PLANNED),
+        // an extended area of one byte in a hole, a second block that is a hole, and a first one
+        (FILE + 92, b"\x01", REPORT),
+        (FILE + 16, b"\x01\x10", whole_block.as_slice()),
+        (FILE + 112, b"\x00", NOTHING_PLANNED),
+    ] {
+        let text = report_of(alloc, changed(alloc, at, bytes)?, RULE)?.ok_or("not done")?;
+        assert_eq!(rt; text.as_slice(), report, "at {at}");
     }
     Ok(())
 }
 
 #[test]
-fn short_images_are_not_built(rt: HostRuntime) -> Result<(), Fail> {
+fn short_images_are_refused(rt: HostRuntime) -> Result<(), Fail> {
     let alloc = rt.alloc();
-    for len in [
-        0, 1, 10, 1000, 66911, 66912, 74495, 74751, 81920, 86016, 90111,
+    let inode = Status::Damaged(Sort::InodeNumber, 65_536);
+    let root = Status::Damaged(Sort::BlockPointer, 74_352);
+    let file = Status::Damaged(Sort::BlockPointer, 74_608);
+    for (len, refusal) in [
+        (0, Status::NotRecognised),
+        (1000, Status::NotRecognised),
+        (66_911, Status::NotRecognised),
+        (66_912, inode),
+        (74_495, inode),
+        (74_751, root),
+        (81_920, root),
+        (86_016, file),
+        (90_111, file),
     ] {
         let mut image = small_image(alloc)?;
         image.truncate(len);
         let (status, text) = planned(alloc, image, RULE)?;
-        assert_eq!(rt; status, Status::NotBuilt, "{len} bytes");
+        assert_eq!(rt; status, refusal, "{len} bytes");
         assert!(rt; text.is_empty());
     }
     Ok(())
@@ -347,7 +442,7 @@ fn the_blocks_of_a_file_are_planned(rt: HostRuntime) -> Result<(), Fail> {
 }
 
 #[test]
-fn more_than_twelve_blocks_are_not_built(rt: HostRuntime) -> Result<(), Fail> {
+fn the_thirteenth_block_is_found_through_a_block_of_pointers(rt: HostRuntime) -> Result<(), Fail> {
     let mut image = small_image(rt.alloc())?;
     put_inode(&mut image, FILE, 0x81A4, 49153, 0);
     put_pointers(
@@ -355,8 +450,26 @@ fn more_than_twelve_blocks_are_not_built(rt: HostRuntime) -> Result<(), Fail> {
         FILE,
         &[21, 22, 23, 24, 25, 26, 27, 28, 29, 30, 31, 32],
     );
-    let (status, _text) = planned(rt.alloc(), image, RULE)?;
-    assert_eq!(rt; status, Status::NotBuilt);
+    put(&mut image, FILE + 208, &[40]);
+    put(&mut image, 163_840, &[41]);
+    let text = report_of(rt.alloc(), image, RULE)?.ok_or("not done")?;
+    assert_eq!(rt;
+        text.as_slice(),
+        b"redaction planned\nimage 262144\nranges 2\nbytes 49153\nRANGE 86016 49152 1 0x58\nRANGE 167936 1 1 0x58\nFILE 1 /a\n".as_slice()
+    );
+    Ok(())
+}
+
+#[test]
+fn a_directory_below_the_root_is_walked(rt: HostRuntime) -> Result<(), Fail> {
+    let mut image = with_two_entries(rt.alloc(), 4)?;
+    put_inode(&mut image, FILE + 256, 0x41ED, 512, 22);
+    put_entry(&mut image, 90_112, 3, 512, b"c");
+    let text = report_of(rt.alloc(), image, b"FILENAME \"c\" FILL 0x58")?.ok_or("not done")?;
+    assert_eq!(rt;
+        text.as_slice(),
+        b"redaction planned\nimage 262144\nranges 1\nbytes 3\nRANGE 86016 3 1 0x58\nFILE 1 /a\nFILE 1 /b/c\n".as_slice()
+    );
     Ok(())
 }
 
