@@ -1,0 +1,59 @@
+//! The names of a volume, by the number of the inode that has them.
+ghost use Rattle.std.specs.Prelude.{◌≡◌, IfOk};
+ghost use Rattle.ufs_files.specs.Groups.{AreGroupsOf, with_name};
+
+use rx_ranges::{NoMemory, Text};
+use std::alloc::Global;
+use std::marker::Model;
+use ufs_inode_defs::inode::Inode;
+use ufs_names::Name;
+
+/// The number of an inode, the inode, and its paths.
+#[derive(Debug, Drop)]
+pub(crate) struct Group {
+    pub(crate) number: u32,
+    pub(crate) inode: Inode,
+    pub(crate) paths: Vec<Text>,
+}
+
+impl Model for Group {
+    ghost use Rattle.ufs_files.specs.Groups.{Group};
+
+    ghost Value = { Group };
+
+    ghost view = { λ g. record {
+      number = g.number;
+      inode = g.inode;
+      paths = g.paths.items;
+    } };
+}
+
+/// Adds a name to the groups of the names in front of it, whose numbers are no greater.
+fn add_name(alloc: Global, groups: &mut Vec<Group>, name: Name) -> Result<(), NoMemory>
+    ensures { IfOk result (λ _. groups.new.items ≡ with_name groups.old.items name) }
+{
+    if let Some(last) = groups.last_mut()
+        && last.number == name.number
+    {
+        last.paths.push(name.path)?;
+        return Ok(());
+    }
+    groups.push(Group {
+        number: name.number,
+        inode: name.inode,
+        paths: vec![in alloc; name.path]?,
+    })?;
+    Ok(())
+}
+
+/// The names by the numbers of their inodes, by rising number. The paths are moved, not copied.
+pub(crate) fn groups_of(alloc: Global, mut names: Vec<Name>) -> Result<Vec<Group>, NoMemory>
+    ensures { IfOk result (λ groups. AreGroupsOf names.items groups.items) }
+{
+    names.sort_by_key(|name| name.number)?;
+    let mut groups = Vec::new(alloc);
+    for name in names {
+        add_name(alloc, &mut groups, name)?;
+    }
+    Ok(groups)
+}

@@ -1,0 +1,4 @@
+//! Makes the files and the tree of a UFS volume.
+#![tactic(auto)]
+
+mod group;
