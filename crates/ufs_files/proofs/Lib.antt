@@ -1,2 +1,3 @@
 pub mod GroupLaws
 pub mod SortLaws
+pub mod TreeLaws

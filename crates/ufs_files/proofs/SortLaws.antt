@@ -1,19 +1,24 @@
 -- Names that were sorted by their numbers.
-use Rattle.std.specs.Prelude.{◌≡◌, ℕ, ◌<◌, ◌≤◌, ◌==◌, not, ◌&&◌, List, map, length, get_or}
+use Rattle.std.specs.Prelude.{Bool, ◌≡◌, ℕ, ◌<◌, ◌≤◌, ◌==◌, not, ◌&&◌, List, map, length, get_or}
 use Rattle.std.specs.Borrow.{Bor}
-use Rattle.std.specs.FinMap.{nat_cmp-IsAntisymmetric}
-use Rattle.std.specs.Fn.{Mut, Called, ComputesKey}
+use Rattle.std.specs.Cmp.{IsStrictWeakOrder}
+use Rattle.std.specs.Cmp.Lexicographic.{slice_cmp}
+use Rattle.std.specs.FinMap.{nat_cmp-IsAntisymmetric, slice_cmp-IsAntisymmetric}
+use Rattle.std.specs.Fn.{Mut, Called, ComputesKey, ComparesAs}
 use Rattle.std.specs.List.{All}
-use Rattle.std.specs.List.Sorted.{IsPermutation, IsSortedByKey, IsStableByKey}
+use Rattle.std.specs.List.Sorted.{IsPermutation, IsSorted, IsSortedBy, IsSortedByKey, IsStableByKey}
 use Rattle.std.specs.Ordering.{nat_cmp, is_lt}
+use Rattle.std.specs.declared.cmp.Ordering.{Ordering}
 use Rattle.std.proofs.Common.{ap, sym, ◌∙◌, subst, arith, take}
 use Rattle.std.proofs.lemmas.Bool.Decides.{nat_tests}
-use Rattle.std.proofs.lemmas.Cmp.{nat_cmp_total}
+use Rattle.std.proofs.lemmas.Cmp.{nat_cmp_total, nat_list_cmp_total}
 use Rattle.std.proofs.lemmas.Fn.{always_returns_same}
 use Rattle.std.proofs.lemmas.List.{get_or-take, get_or_read, map-id, length-take}
 use Rattle.std.proofs.lemmas.List.Elements.{All-weaker, filter_agree}
-use Rattle.std.proofs.lemmas.List.Sorted.{IsNonDecreasingBy-from_sort, IsPermutation-map, IsPermutation-sym, Contains-permutation}
+use Rattle.std.proofs.lemmas.List.Sorted.{IsNonDecreasingBy-from_sort, IsPermutation-map, IsPermutation-sym, Contains-permutation, ranks_by}
+use Rattle.order_defs.specs.Sorted.{sorted_names}
 use Rattle.order_defs.proofs.DistinctLaws.{distinct_moved}
+use Rattle.order_defs.proofs.SortedLaws.{sorted_law}
 use Rattle.ufs_volume_defs.specs.Names.{Named}
 use Rattle.ufs_volume_defs.specs.Files.{paths_of}
 use Rattle.ufs_files.specs.Groups.{Group, IsGroupOf, AreGroupsOf}
@@ -81,3 +86,18 @@ same_groups names list done groups is whole of =
           ∙ sym (distinct_moved nat_cmp nat_cmp_total nat_cmp-IsAntisymmetric (map number_of names) (map number_of list) (IsPermutation-map number_of names list is.moved));
       each = All-weaker (IsGroupOf list) (IsGroupOf names) (λ group of. same_group names list group is of) groups all.each;
     }
+
+-- ---- the paths of a file
+
+-- what `sort_unstable_by` ensures, where each call of its closure compares the bytes of two paths
+pub sorted_by_bytes : {F : Type 0} {g : Mut F (Bor (List ℕ) × (Bor (List ℕ) × Unit {0})) Ordering} {f : F} (list : List (List ℕ))
+    → ((lt : List ℕ → List ℕ → Bool) → IsStrictWeakOrder lt → ComparesAs g lt f → IsSortedBy lt list)
+    → ((a : Bor (List ℕ) × (Bor (List ℕ) × Unit {0})) (r : Ordering) (f' : F) → Called g f a r f' → (r ≡ slice_cmp nat_cmp a.0.now a.1.0.now) × (f' ≡ f)) → IsSorted (slice_cmp nat_cmp) list
+sorted_by_bytes {F} {g} {f} list sorted gives =
+    sorted (λ x y. is_lt (slice_cmp nat_cmp x y)) (ranks_by nat_list_cmp_total (λ x. x))
+    (always_returns_same g (λ a r. is_lt r ≡ is_lt (slice_cmp nat_cmp a.0.now a.1.0.now)) f (λ a r f' k. (ap is_lt (gives a r f' k).0, (gives a r f' k).1)))
+
+-- paths in the order of their bytes are the sorted names
+pub names_are : (paths list : List (List ℕ)) → IsPermutation paths list → IsSorted (slice_cmp nat_cmp) list → list ≡ sorted_names paths
+names_are paths list moved sorted =
+    (sorted_law (slice_cmp nat_cmp) nat_list_cmp_total paths).one_moved (slice_cmp-IsAntisymmetric nat_cmp-IsAntisymmetric) list sorted moved

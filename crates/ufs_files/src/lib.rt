@@ -1,4 +1,6 @@
 //! Makes the files and the tree of a UFS volume.
 #![tactic(auto)]
 
+mod file;
 mod group;
+mod tree;
