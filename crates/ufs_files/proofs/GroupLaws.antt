@@ -1,21 +1,22 @@
 -- The groups of names whose numbers never fall.
-use Rattle.std.specs.Prelude.{◌≡◌, ℕ, zero, suc, ◌-◌, ◌<◌, ◌≤◌, Bool, true, false, ◌==◌, if◌then◌else◌, IsTrue, ◌↔◌, List, [], ◌∷◌, ◌++◌, map, length, get_or, refl}
+use Rattle.std.specs.Prelude.{◌+◌, ◌≡◌, ℕ, zero, suc, ◌-◌, ◌<◌, ◌≤◌, Bool, true, false, ◌==◌, if◌then◌else◌, IsTrue, ◌↔◌, List, [], ◌∷◌, ◌++◌, map, length, get_or, refl}
 use Rattle.std.specs.BTreeSet.{insert_key}
 use Rattle.std.specs.FinMap.{nat_cmp-IsAntisymmetric}
-use Rattle.std.specs.List.{All, Contains, filter}
+use Rattle.std.specs.List.{All, Contains, filter, sum_by}
 use Rattle.std.specs.List.Sorted.{IsStrictlySortedBy}
 use Rattle.std.specs.Ordering.{nat_cmp}
 use Rattle.std.specs.declared.cmp.Ordering.TheVariants.{Less, Greater}
-use Rattle.std.proofs.Common.{ap, sym, ◌∙◌, subst, arith, set, cond, append-nil}
+use Rattle.std.proofs.Common.{ap, sym, ◌∙◌, subst, arith, set, cond, append-nil, length-append}
 use Rattle.std.proofs.lemmas.Bool.Decides.{Decides-eqb, nat_tests}
 use Rattle.std.proofs.lemmas.Cmp.{nat_cmp_total}
 use Rattle.std.proofs.lemmas.List.{map-append, get_or_read, set-get_or}
 use Rattle.std.proofs.lemmas.List.Elements.{All-nil, All-cons, All-head, All-tail, All-map, All-weaker, All-contains, All-contains_itself, All-from_recursion, Contains-append_left, Contains-push, filter-append}
+use Rattle.std.proofs.lemmas.List.Sums.{sum_by-append, sum_by-cons}
 use Rattle.order_defs.specs.Sorted.{distinct, rising_numbers}
 use Rattle.order_defs.proofs.DistinctLaws.{distinct_all, distinct_push, distinct_sorted, rising_numbers_law}
 use Rattle.ufs_damage_defs.proofs.FileDamage.{number_among}
 use Rattle.ufs_inode_defs.specs.declared.inode.Inode.{Inode}
-use Rattle.ufs_volume_defs.specs.Names.{Named}
+use Rattle.ufs_volume_defs.specs.Names.{Named, path_bytes}
 use Rattle.ufs_volume_defs.specs.Files.{numbers_of, paths_of}
 use Rattle.ufs_files.specs.Groups.{Group, IsNamedInode, IsGroupOf, AreGroupsOf, group_of, with_next, with_name}
 
@@ -221,9 +222,73 @@ groups_below done groups number are below =
     unmapped (λ n. n ≤ number) groups
     (subst (All (λ n. n ≤ number)) (sym are) (distinct_all nat_cmp (λ n. n ≤ number) (map (λ (n : Named). n.number) done) (All-map (λ n. n ≤ number) (λ (n : Named). n.number) done below)))
 
+-- ---- how many paths there are, and their bytes
+
+module _ (f : List ℕ → ℕ) where
+  abbrev total : List Group → ℕ
+  total groups = sum_by (λ group. sum_by f group.paths) groups
+
+  one_total : (paths : List (List ℕ)) (path : List ℕ) → sum_by f (paths ++ path ∷ []) ≡ sum_by f paths + f path
+  one_total paths path =
+      let whole = sum_by-append f paths (path ∷ []) in
+      let one = sum_by-cons f path [] in
+      omega (arith, whole, one)
+
+  next_total : (group : Group) (name : Named) → total (with_next group name) ≡ sum_by f group.paths + f name.path
+  next_total group name = tested (group.number == name.number)
+    where
+      tested : (test : Bool) → total (if test then (record group { paths = group.paths ++ name.path ∷ [] } ∷ []) else (group ∷ group_of name ∷ [])) ≡ sum_by f group.paths + f name.path
+      tested true =
+          let whole = sum_by-cons (λ (g : Group). sum_by f g.paths) (record group { paths = group.paths ++ name.path ∷ [] }) [] in
+          let one = one_total group.paths name.path in
+          omega (arith, whole, one)
+      tested false =
+          let whole = sum_by-cons (λ (g : Group). sum_by f g.paths) group (group_of name ∷ []) in
+          let rest = sum_by-cons (λ (g : Group). sum_by f g.paths) (group_of name) [] in
+          let one = sum_by-cons f name.path [] in
+          omega (arith, whole, rest, one)
+
+  with_name-total : (groups : List Group) (name : Named) → total (with_name groups name) ≡ total groups + f name.path
+  with_name-total [] name =
+      let whole = sum_by-cons (λ (g : Group). sum_by f g.paths) (group_of name) [] in
+      let one = sum_by-cons f name.path [] in
+      omega (arith, whole, one)
+  with_name-total (group ∷ []) name =
+      let whole = sum_by-cons (λ (g : Group). sum_by f g.paths) group [] in
+      let one = next_total group name in
+      omega (arith, whole, one)
+  with_name-total (group ∷ next ∷ groups) name =
+      let whole = sum_by-cons (λ (g : Group). sum_by f g.paths) group (with_name (next ∷ groups) name) in
+      let before = sum_by-cons (λ (g : Group). sum_by f g.paths) group (next ∷ groups) in
+      let rest = with_name-total (next ∷ groups) name in
+      omega (arith, whole, before, rest)
+
+counted : {X : Type 0} (xs : List X) → sum_by (λ _. 1) xs ≡ length xs
+counted [] = refl
+counted (x ∷ xs) = let whole = sum_by-cons (λ _. 1) x xs in let rest = counted xs in omega (arith, whole, rest)
+
+total_count : (groups : List Group) → total (λ _. 1) groups ≡ sum_by (λ group. length group.paths) groups
+total_count [] = refl
+total_count (group ∷ groups) =
+    let whole = sum_by-cons (λ (g : Group). sum_by (λ _. 1) g.paths) group groups in
+    let other = sum_by-cons (λ (g : Group). length g.paths) group groups in
+    let one = counted group.paths in
+    let rest = total_count groups in
+    omega (arith, whole, other, one, rest)
+
+count_more : (groups : List Group) (name : Named) → sum_by (λ group. length group.paths) (with_name groups name) ≡ sum_by (λ group. length group.paths) groups + 1
+count_more groups name =
+    let now = total_count (with_name groups name) in
+    let before = total_count groups in
+    let more = with_name-total (λ _. 1) groups name in
+    omega (arith, now, before, more)
+
 pub no_groups : AreGroupsOf [] []
 unfolding distinct
-no_groups = record { numbers = refl; each = All-nil (IsGroupOf []) }
+no_groups = record { numbers = refl; each = All-nil (IsGroupOf []); count = refl; bytes = refl }
+
+plus_none : (n : ℕ) → n + 0 ≡ n
+plus_none n = omega arith
 
 pub groups_more : (done : List Named) (groups : List Group) (name : Named) → All (λ one. one.number ≤ name.number) done → AreGroupsOf done groups → AreGroupsOf (done ++ name ∷ []) (with_name groups name)
 groups_more done groups name below are =
@@ -236,4 +301,9 @@ groups_more done groups name below are =
           ∙ sym (distinct_push nat_cmp nat_cmp_total nat_cmp-IsAntisymmetric (map (λ (n : Named). n.number) done) name.number)
           ∙ ap rising_numbers (sym (map-append (λ (n : Named). n.number) done (name ∷ [])));
       each = with_name-each done groups name rise low (fresh_number done groups name.number are.numbers) are.each;
+      count = count_more groups name ∙ ap (λ n. n + 1) are.count ∙ sym (length-append done (name ∷ []));
+      bytes =
+          with_name-total length groups name ∙ ap (λ n. n + length name.path) are.bytes
+          ∙ ap (λ n. path_bytes done + n) (sym (sum_by-cons (λ (n : Named). length n.path) name [] ∙ plus_none (length name.path)))
+          ∙ sym (sum_by-append (λ (n : Named). length n.path) done (name ∷ []));
     }

@@ -15,7 +15,7 @@ use Rattle.std.proofs.lemmas.Cmp.{nat_cmp_total, nat_list_cmp_total}
 use Rattle.std.proofs.lemmas.Fn.{always_returns_same}
 use Rattle.std.proofs.lemmas.List.{get_or-take, get_or_read, map-id, length-take}
 use Rattle.std.proofs.lemmas.List.Elements.{All-weaker, filter_agree}
-use Rattle.std.proofs.lemmas.List.Sorted.{IsNonDecreasingBy-from_sort, IsPermutation-map, IsPermutation-sym, Contains-permutation, ranks_by}
+use Rattle.std.proofs.lemmas.List.Sorted.{IsNonDecreasingBy-from_sort, IsPermutation-map, IsPermutation-sym, Contains-permutation, ranks_by, length_permutation, sum_by-IsPermutation}
 use Rattle.order_defs.specs.Sorted.{sorted_names}
 use Rattle.order_defs.proofs.DistinctLaws.{distinct_moved}
 use Rattle.order_defs.proofs.SortedLaws.{sorted_law}
@@ -85,6 +85,8 @@ same_groups names list done groups is whole of =
           all.numbers
           ∙ sym (distinct_moved nat_cmp nat_cmp_total nat_cmp-IsAntisymmetric (map number_of names) (map number_of list) (IsPermutation-map number_of names list is.moved));
       each = All-weaker (IsGroupOf list) (IsGroupOf names) (λ group of. same_group names list group is of) groups all.each;
+      count = all.count ∙ length_permutation names list is.moved;
+      bytes = all.bytes ∙ sum_by-IsPermutation (λ (name : Named). length name.path) names list is.moved;
     }
 
 -- ---- the paths of a file

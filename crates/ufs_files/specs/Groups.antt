@@ -1,8 +1,8 @@
 -- The names of a volume, by the number of the inode that has them.
-use Rattle.std.specs.Prelude.{◌≡◌, ℕ, ◌==◌, if◌then◌else◌, List, [], ◌∷◌, ◌++◌, map}
-use Rattle.std.specs.List.{All, Contains}
+use Rattle.std.specs.Prelude.{◌≡◌, ℕ, ◌==◌, if◌then◌else◌, List, [], ◌∷◌, ◌++◌, map, length}
+use Rattle.std.specs.List.{All, Contains, sum_by}
 use Rattle.ufs_inode_defs.specs.declared.inode.Inode.{Inode}
-use Rattle.ufs_volume_defs.specs.Names.{Named}
+use Rattle.ufs_volume_defs.specs.Names.{Named, path_bytes}
 use Rattle.ufs_volume_defs.specs.Files.{numbers_of, paths_of}
 
 -- the number of an inode, the inode, and its paths
@@ -23,10 +23,12 @@ pub record IsGroupOf (names : List Named) (group : Group) : Type 0 where
   pub paths : group.paths ≡ paths_of names group.number
   pub inode : IsNamedInode names group.number group.inode
 
--- one group for each number, by rising number
+-- one group for each number, by rising number; together they have as many paths as there are names, and as many bytes
 pub record AreGroupsOf (names : List Named) (groups : List Group) : Type 0 where
   pub numbers : map (λ group. group.number) groups ≡ numbers_of names
   pub each : All (IsGroupOf names) groups
+  pub count : sum_by (λ group. length group.paths) groups ≡ length names
+  pub bytes : sum_by (λ group. sum_by length group.paths) groups ≡ path_bytes names
 
 -- ---- one more name, whose number is that of the last group or greater
 
