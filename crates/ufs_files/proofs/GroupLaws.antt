@@ -53,7 +53,7 @@ group_number group = group.number
 abbrev AreAtMost : ℕ → List Group → Type 0
 AreAtMost number = All (λ group. group.number ≤ number)
 
-less_is : (a b : ℕ) → nat_cmp a b ≡ Less → a < b
+pub less_is : (a b : ℕ) → nat_cmp a b ≡ Less → a < b
 less_is a b less = grind (arith, nat_tests)
 
 greater_is : (a b : ℕ) → b < a → nat_cmp a b ≡ Greater
@@ -209,7 +209,7 @@ fresh_number done groups number are apart =
     done (All-contains_itself done))
 
 -- the groups rise, and their numbers are those of names
-groups_rise : (done : List Named) (groups : List Group) → map group_number groups ≡ numbers_of done → IsStrictlySortedBy nat_cmp (map group_number groups)
+pub groups_rise : (done : List Named) (groups : List Group) → map group_number groups ≡ numbers_of done → IsStrictlySortedBy nat_cmp (map group_number groups)
 groups_rise done groups are = subst (IsStrictlySortedBy nat_cmp) (sym are) (distinct_sorted nat_cmp nat_cmp_total (map (λ (n : Named). n.number) done))
 
 unmapped : (P : ℕ → Type 0) (groups : List Group) → All P (map group_number groups) → All (λ group. P group.number) groups

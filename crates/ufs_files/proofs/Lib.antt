@@ -1,3 +1,6 @@
 pub mod GroupLaws
 pub mod SortLaws
 pub mod TreeLaws
+pub mod SecondLaws
+pub mod FileLaws
+pub mod PassLaws

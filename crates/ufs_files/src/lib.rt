@@ -3,4 +3,5 @@
 
 mod file;
 mod group;
+mod second;
 mod tree;
