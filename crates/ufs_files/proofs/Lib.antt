@@ -4,3 +4,5 @@ pub mod TreeLaws
 pub mod SecondLaws
 pub mod FileLaws
 pub mod PassLaws
+pub mod VolumeLaws
+pub mod ToldLaws

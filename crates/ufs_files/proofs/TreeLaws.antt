@@ -9,8 +9,13 @@ use Rattle.range_defs.specs.declared.Range.{Range}
 use Rattle.range_defs.specs.declared.TheConstants.{LONGEST_IMAGE}
 use Rattle.range_defs.specs.Places.{covers, IsRangeList, longest_ranges, EndsInReach}
 use Rattle.range_defs.proofs.RangeLaws.{same_range_list, same_as_longest_ranges, ends_where_covered, covers-past}
+use Rattle.rx_ranges.specs.declared.pieces.Piece.{Piece}
+use Rattle.rx_ranges.specs.declared.pieces.PieceKind.{PieceKind}
+use Rattle.rx_ranges.specs.declared.pieces.PieceKind.TheVariants.{Disk, Zero}
+use Rattle.piece_defs.specs.Places.{IsWithin}
+use Rattle.rx_tree.specs.PartValue.{PartValue}
 use Rattle.rx_tree.specs.TreeValue.{TreeValue}
-use Rattle.rx_tree.specs.Within.{AreRangesWithin, AreFilesWithin, IsWithin}
+use Rattle.rx_tree.specs.Within.{AreRangesWithin, ArePiecesWithin, ArePartsWithin, AreFilesWithin, IsWithin as IsTreeWithin}
 use Rattle.rx_tree.specs.Order.{AreInVolumes, has_number}
 use Rattle.rx_tree.specs.declared.file.FileEntry.{FileEntry}
 use Rattle.rx_tree.specs.declared.volume.Volume.{Volume}
@@ -42,7 +47,7 @@ ok_map (Err e) first second follows = tt
 
 -- all that the tree says lies in the image
 pub tree_within : (size number : ℕ) (volume : Range) (guard : List Range) (found : FoundVolume) → size ≤ LONGEST_IMAGE → volume.at + volume.len ≤ size → AreFilesWithin size found.files → AreRangesWithin size guard
-    → IsWithin (tree_of size volume number guard found)
+    → IsTreeWithin (tree_of size volume number guard found)
 tree_within size number volume guard found reach inside within guarded =
     let one : Volume = record { number = number; kind = kind_of_version found.superblock.version; at = volume.at; len = volume.len } in
     record {
@@ -66,3 +71,21 @@ pub tree_is : (size number : ℕ) (volume : Range) (found : FoundVolume) (volume
 tree_is size number volume found volumes unread guard files one none are =
     let T : List Volume → List Range → List FileEntry → TreeValue = λ v u f. record { image_len = size; volumes = v; unread = u; files = f; guard = guard } in
     ap (λ v. T v [] found.files) (sym one) ∙ ap (λ u. T volumes u found.files) (sym none) ∙ ap (λ f. T volumes unread f) (sym are)
+
+-- ---- what lies in a volume lies in the image
+
+piece_wider : (kind : PieceKind) (at len short wide : ℕ) → short ≤ wide → IsWithin short kind at len → IsWithin wide kind at len
+piece_wider Disk at len short wide low within = omega (arith, low, within)
+piece_wider Zero at len short wide low within = tt
+
+pub files_wider : (files : List FileEntry) (short wide : ℕ) → short ≤ wide → AreFilesWithin short files → AreFilesWithin wide files
+files_wider files short wide low within =
+    All-weaker (λ (file : FileEntry). ArePartsWithin short file.parts) (λ (file : FileEntry). ArePartsWithin wide file.parts)
+    (λ file parts.
+    All-weaker (λ (part : PartValue). ArePiecesWithin short part.pieces × AreRangesWithin short part.slack) (λ (part : PartValue). ArePiecesWithin wide part.pieces × AreRangesWithin wide part.slack)
+    (λ part both. (
+      All-weaker (λ (piece : Piece). IsWithin short piece.kind piece.at piece.len) (λ (piece : Piece). IsWithin wide piece.kind piece.at piece.len) (λ piece one. piece_wider piece.kind piece.at piece.len short wide low one) part.pieces both.0,
+      All-weaker (λ (range : Range). range.at + range.len ≤ short) (λ (range : Range). range.at + range.len ≤ wide) (λ range ends. omega (arith, ends, low)) part.slack both.1,
+    ))
+    file.parts parts)
+    files within

@@ -5,3 +5,6 @@ mod file;
 mod group;
 mod second;
 mod tree;
+mod volume;
+
+pub use volume::read_ufs;
