@@ -72,8 +72,8 @@ ids_rise sup volume (group ∷ []) (file ∷ other ∷ files) rise made = absurd
 ids_rise sup volume (group ∷ next ∷ groups) (file ∷ []) rise made = absurd made.1
 ids_rise sup volume (group ∷ next ∷ groups) (file ∷ other ∷ files) rise made = (
   (let P : FileId → Type 0 = λ id. IsTrue (stands_before id other.id) in
-  let Q : FileId → Type 0 = λ id. IsTrue (stands_before (record { volume = volume; number = group.number }) id) in
-  subst P (sym made.0.id) (subst Q (sym made.1.0.id) (before_is volume group.number next.number (first_rises group next groups rise)))),
+      let Q : FileId → Type 0 = λ id. IsTrue (stands_before (record { volume = volume; number = group.number }) id) in
+      subst P (sym made.0.id) (subst Q (sym made.1.0.id) (before_is volume group.number next.number (first_rises group next groups rise)))),
   ids_rise sup volume (next ∷ groups) (other ∷ files) (rest_rises group (next ∷ groups) rise) made.1,
 )
 

@@ -57,12 +57,19 @@ impl Filed {
     }
 
     /// One more file: that of a group, with the parts that were found.
-    fn with_group(mut self, sup: &Super, volume: u32, group: Group, parted: Parted) -> Result<Filed, AllocError>
+    fn with_group(
+        mut self,
+        sup: &Super,
+        volume: u32,
+        group: Group,
+        parted: Parted,
+    ) -> Result<Filed, AllocError>
         requires good { IsGoodGroup sup.now group }
         requires sorted { ArePartsSorted parted.parts }
         ensures { IfOk result (λ filed. filed ≡ with_group sup.now volume self group parted) }
     {
-        self.files.push(file_from(sup, volume, group, parted.parts))?;
+        self.files
+            .push(file_from(sup, volume, group, parted.parts))?;
         self.runs = parted.runs;
         Ok(self)
     }

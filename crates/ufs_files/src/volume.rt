@@ -87,7 +87,14 @@ pub fn read_ufs<S: Store>(
         return Err(ReadFault::Limit(Bound::Image, LONGEST_IMAGE));
     }
     let mut looked = Vec::new(alloc);
-    let FoundVolume { superblock, files } =
-        read_volume(alloc, store, size, at, len, volume, &mut looked)?;
+    let FoundVolume { superblock, files } = read_volume(
+        alloc,
+        store,
+        size,
+        at,
+        len,
+        volume,
+        &mut looked,
+    )?;
     Ok(tree_from(alloc, size, &superblock, volume, files, looked)?)
 }

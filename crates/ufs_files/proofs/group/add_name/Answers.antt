@@ -16,10 +16,10 @@ returns-2 c =
     let pushed : c.push-2.new.self.items ≡ c.in_default.groups.items ++ group_of name ∷ [] =
     c.in_ok-push-2.ensures.items ∙ ap (λ paths. c.in_default.groups.items ++ record { number = c.name.inside.number; inode = c.name.inside.inode; paths = paths } ∷ []) c.in_ok-vec.ensures.items in
     elim c.in_default.branch [
-      in_default-via-in-None-1 w ↦
+      | in_default-via-in-None-1 w ↦
           pushed ∙ ap (λ groups. groups.items ++ group_of name ∷ []) w.groups-is
           ∙ pushed_first c.args.groups.now.items c.args.groups.now.len c.args.name _ c.args.groups.now.ok.0 (let none : 0 < c.args.groups.now.len → ⊥ = λ some. search rules in none) c.name.view_is
-    | in_default-via-in-Some+else-last-name w ↦
+      | in_default-via-in-Some+else-last-name w ↦
           pushed ∙ ap (λ groups. groups.items ++ group_of name ∷ []) w.groups-is
           ∙ pushed_behind c.args.groups.now.items _ w.in-Some.last.now _ c.args.name _ c.args.groups.now.ok.0 (some_last _ w.in-Some.ensures.variant) w.in-Some.ensures.value w.last.view_is c.name.view_is w.if-last-name.false
     ]
