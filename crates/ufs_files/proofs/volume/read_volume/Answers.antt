@@ -37,4 +37,4 @@ returns-clause-reads g c =
 pub returns-clause-kept_within : goal.returns-clause-kept_within
 returns-clause-kept_within g c = λ end last within.
     let here : c.in_ok-superblock.superblock.at + c.in_ok-superblock.superblock.len ≤ end = omega (arith, last, c.in_ok-superblock.ensures.begins, c.in_ok-superblock.ensures.long) in
-    c.in_ok-filed.ensures.kept_within end here (c.in_ok-walk.ensures.kept_within end here (c.in_ok-superblock.ensures.within end last within))
+    c.in_ok-filed.ensures.kept_within end here (c.in_ok-walk.ensures.kept end here (c.in_ok-superblock.ensures.within end last within))
