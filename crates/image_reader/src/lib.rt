@@ -20,7 +20,6 @@ mod fault;
 mod kind;
 #[cfg(test)]
 mod tests;
-mod ufs;
 
 pub use fault::ImageFault;
 use kind::is_other_kind;
@@ -28,7 +27,7 @@ use range_defs::LONGEST_IMAGE;
 use rx_store::{Area, Bound, ReadFault, Store};
 use rx_tree::Tree;
 use std::alloc::Global;
-use ufs::read_ufs;
+use ufs_files::read_ufs;
 
 /// The tree of the image.
 pub fn read_image<S: Store>(alloc: Global, store: &mut S) -> Result<Tree, ImageFault>
