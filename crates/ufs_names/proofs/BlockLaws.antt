@@ -1,6 +1,6 @@
 -- What is read of a block.
-use Rattle.std.specs.Prelude.{◌≡◌, ℕ, ◌+◌, ◌<◌, ◌≤◌, All, Option, None, Some, IfSome, Result, Ok, Err, List, ◌++◌, ◌∷◌, [], length, refl}
-use Rattle.std.proofs.Common.{arith, ap, sym, subst, ◌∙◌, append-nil}
+use Rattle.std.specs.Prelude.{◌≡◌, ℕ, Option, None, Some, IfSome, Result, Ok, Err, List, ◌++◌, ◌∷◌, [], refl}
+use Rattle.std.proofs.Common.{ap, sym, subst, append-nil}
 use Rattle.range_defs.specs.declared.Range.{Range}
 use Rattle.bytes_defs.specs.Bytes.{part}
 use Rattle.image_defs.specs.Ask.{Ask, look, given}

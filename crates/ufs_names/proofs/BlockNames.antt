@@ -1,6 +1,6 @@
 -- The names that the entries of a block give, in the order of a read: the bytes, the entries, and their names.
-use Rattle.std.specs.Prelude.{◌≡◌, ℕ, IsErr, IsErrAnd, Option, Result, Ok, Err, List, length, refl}
-use Rattle.std.proofs.Common.{arith, ap, sym, subst, ◌∙◌}
+use Rattle.std.specs.Prelude.{◌≡◌, ℕ, IsErr, IsErrAnd, Option, Result, Ok, Err, List, refl}
+use Rattle.std.proofs.Common.{subst}
 use Rattle.range_defs.specs.declared.Range.{Range}
 use Rattle.image_defs.specs.Ask.{Ask, look, given, ◌>>=◌}
 use Rattle.image_defs.specs.Standing.{IsCome}

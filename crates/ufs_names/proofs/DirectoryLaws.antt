@@ -1,11 +1,11 @@
 -- The names that the entries of a directory give, in the order of a read: its size, its blocks, and their names.
-use Rattle.std.specs.Prelude.{◌≡◌, ◌≢◌, ℕ, ◌+◌, ◌%◌, ◌≤◌, Bool, true, false, ◌==◌, IsErr, IsErrAnd, Option, Result, Ok, Err, List, refl}
+use Rattle.std.specs.Prelude.{◌≡◌, ◌≢◌, ℕ, ◌+◌, ◌%◌, ◌≤◌, true, false, ◌==◌, IsErr, IsErrAnd, Option, Result, Ok, Err, List, refl}
 use Rattle.std.proofs.Common.{arith, ap, sym, subst, ◌∙◌}
 use Rattle.std.proofs.lemmas.Bool.Decides.{nat_tests}
 use Rattle.range_defs.specs.declared.Range.{Range}
 use Rattle.range_defs.specs.declared.TheConstants.{LONGEST_IMAGE}
 use Rattle.rx_ranges.specs.declared.pieces.Piece.{Piece}
-use Rattle.image_defs.specs.Ask.{Ask, given, check, ◌>>=◌}
+use Rattle.image_defs.specs.Ask.{Ask, given, ◌>>=◌}
 use Rattle.image_defs.specs.Standing.{IsCome}
 use Rattle.image_defs.specs.Through.{through}
 use Rattle.image_defs.proofs.Standing.{begins, comes_past}
@@ -41,7 +41,7 @@ module _ (told : Option (List ℕ)) (sup : Super) (walk : Walk) (directory : Nam
   -- the size is whole, and the blocks are left
   comes_whole : directory.inode.size % 512 ≡ 0
       → IsCome told (directory_names sup walk directory) before
-          (stream_blocks sup (content_stream sup directory.inode) walk.runs >>= (λ laid. given (directory_blocks sup directory.inode laid.pieces) >>= (λ blocks. blocks_left laid blocks))) before
+      (stream_blocks sup (content_stream sup directory.inode) walk.runs >>= (λ laid. given (directory_blocks sup directory.inode laid.pieces) >>= (λ blocks. blocks_left laid blocks))) before
   unfolding directory_names blocks_left
   comes_whole whole =
       let is : (directory.inode.size % 512 == 0) ≡ true = grind (arith, nat_tests) in

@@ -1,18 +1,16 @@
 -- The name that an entry gives.
-use Rattle.std.specs.Prelude.{◌≡◌, ◌≢◌, ℕ, ◌+◌, ◌*◌, ◌≤◌, All, Bool, true, false, not, ◌&&◌, nat_le, nat_lt, if◌then◌else◌, IfOk, OnOk, IsErr, IsErrAnd, Option, Result, Ok, Err, List, ◌++◌, ◌∷◌, [], length, refl}
+use Rattle.std.specs.Prelude.{◌≡◌, ◌≢◌, ℕ, ◌+◌, ◌*◌, ◌≤◌, All, Bool, true, false, ◌&&◌, nat_le, nat_lt, if◌then◌else◌, IfOk, OnOk, IsErr, IsErrAnd, Option, Result, Ok, Err, List, length, refl}
 use Rattle.std.proofs.Common.{arith, ap, sym, subst, ◌∙◌}
 use Rattle.range_defs.specs.declared.Range.{Range}
 use Rattle.image_reads.specs.Steps.{ReadsAs}
 use Rattle.std.proofs.lemmas.Bool.{leb-true}
 use Rattle.std.proofs.lemmas.List.Elements.{All-push}
-use Rattle.image_defs.specs.Ask.{Ask, Done, Stop, check, ◌>>=◌}
+use Rattle.image_defs.specs.Ask.{Ask, Stop, check, ◌>>=◌}
 use Rattle.disk_defs.specs.Count.{Faults}
 use Rattle.disk_defs.specs.declared.Area.TheVariants.{Image}
 use Rattle.fault_defs.specs.declared.Refusal.{Refusal}
 use Rattle.fault_defs.specs.declared.Refusal.TheVariants as refusal
 use Rattle.fault_defs.specs.declared.Bound.TheVariants.{Path}
-use Rattle.name_defs.specs.Texts.{bytes_text}
-use Rattle.rx_tree.specs.Path.{joined_path}
 use Rattle.rx_store.specs.Answers.{Answers}
 use Rattle.rx_store.specs.ReadFaults.{IsReadCounted}
 use Rattle.rx_store.specs.declared.read_fault.ReadFault.{ReadFault}

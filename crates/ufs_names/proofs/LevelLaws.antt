@@ -6,7 +6,7 @@ use Rattle.std.proofs.lemmas.Bool.{cases_lt}
 use Rattle.std.proofs.lemmas.Bool.Decides.{Decides-eqb}
 use Rattle.std.proofs.lemmas.List.Elements.{recursion_from_All, All-from_recursion}
 use Rattle.range_defs.specs.declared.Range.{Range}
-use Rattle.image_defs.specs.Ask.{Ask, Done, Stop, ◌>>=◌}
+use Rattle.image_defs.specs.Ask.{Ask}
 use Rattle.image_defs.specs.Standing.{IsCome}
 use Rattle.image_defs.specs.Through.{through}
 use Rattle.fault_defs.specs.declared.Refusal.{Refusal}

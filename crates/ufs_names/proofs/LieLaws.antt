@@ -1,5 +1,5 @@
 -- The blocks of a directory lie in the volume, where the store tells its image.
-use Rattle.std.specs.Prelude.{◌≡◌, ℕ, zero, suc, ◌+◌, ◌-◌, ◌*◌, ◌/◌, ◌%◌, ◌<◌, ◌≤◌, ℤ, pos, negsuc, Bool, true, false, ◌||◌, nat_lt, if◌then◌else◌, All, Option, None, Some, IfSome, Result, Ok, List, [], ◌∷◌, length, refl}
+use Rattle.std.specs.Prelude.{◌≡◌, ℕ, zero, suc, ◌+◌, ◌-◌, ◌*◌, ◌%◌, ◌<◌, ◌≤◌, ℤ, pos, negsuc, Bool, true, false, ◌||◌, nat_lt, if◌then◌else◌, All, Option, None, Some, IfSome, Result, Ok, List, [], ◌∷◌, length, refl}
 use Rattle.std.specs.Int.{div_ceil}
 use Rattle.std.specs.List.{AllByRecursion}
 use Rattle.std.proofs.Common.{arith, ap, sym, subst, ◌∙◌, ⊎_elim}
@@ -14,7 +14,6 @@ use Rattle.rx_ranges.specs.declared.pieces.PieceKind.{PieceKind}
 use Rattle.rx_ranges.specs.declared.pieces.PieceKind.TheVariants.{Disk, Zero}
 use Rattle.image_defs.specs.Ask.{Done, result_of}
 use Rattle.image_reads.specs.Steps.{ReadsAs}
-use Rattle.fault_defs.specs.declared.Refusal.{Refusal}
 use Rattle.rx_store.specs.declared.read_fault.ReadFault.{ReadFault}
 use Rattle.piece_defs.specs.Covering.{covers_from}
 use Rattle.piece_defs.specs.Places.{IsWithin, AreWithin, of_kind, place_through}

@@ -1,6 +1,6 @@
 -- A name in a directory has a path.
-use Rattle.std.specs.Prelude.{◌≡◌, ℕ, ◌+◌, ◌<◌, ◌≤◌, Bool, true, false, ◌&&◌, not, ◌==◌, nat_le, All, if◌then◌else◌, Ok, Err, List, [], ◌∷◌, ◌++◌, length, refl, IsTrue}
-use Rattle.std.proofs.Common.{arith, ap, sym, subst, ◌∙◌}
+use Rattle.std.specs.Prelude.{◌≡◌, ℕ, ◌<◌, ◌≤◌, Bool, true, false, ◌&&◌, All, if◌then◌else◌, Ok, Err, List, [], ◌∷◌, ◌++◌, length, refl}
+use Rattle.std.proofs.Common.{arith}
 use Rattle.std.specs.List.{list_all}
 use Rattle.std.proofs.lemmas.Bool.{le-leb, lt-leb}
 use Rattle.std.proofs.lemmas.Bool.Decides.{nat_tests}
@@ -58,6 +58,7 @@ joined_is_path parent name path is bytes joined fits = record {
     by_root : (root : Bool) → ((tail : List ℕ) → begins_with_slash (parent ++ tail) ≡ true) → begins_with_slash (if root then parent ++ bytes_text name else (parent ++ 47 ∷ bytes_text name)) ≡ true
     by_root true tails = tails (bytes_text name)
     by_root false tails = tails (47 ∷ bytes_text name)
+
     printed_by : (root : Bool) → list_all is_printed parent ≡ true → list_all is_printed (bytes_text name) ≡ true → list_all is_printed (if root then parent ++ bytes_text name else (parent ++ 47 ∷ bytes_text name)) ≡ true
     printed_by true one two = printed-append parent (bytes_text name) one two
     printed_by false one two = printed-append parent (47 ∷ bytes_text name) one two

@@ -1,8 +1,7 @@
 -- The root, in the order of a read: its inode, and whether that is a directory.
-use Rattle.std.specs.Prelude.{◌≡◌, ℕ, Bool, true, false, IsErr, IsErrAnd, Option, Result, Ok, Err, List, refl}
-use Rattle.std.proofs.Common.{ap, sym, subst, ◌∙◌}
+use Rattle.std.specs.Prelude.{◌≡◌, ℕ, true, false, IsErr, IsErrAnd, Option, Result, Ok, Err, List, refl}
 use Rattle.range_defs.specs.declared.Range.{Range}
-use Rattle.image_defs.specs.Ask.{Ask, Done, check, ◌>>=◌}
+use Rattle.image_defs.specs.Ask.{Done, check, ◌>>=◌}
 use Rattle.image_defs.specs.Standing.{IsCome}
 use Rattle.image_defs.proofs.Standing.{begins, comes_past}
 use Rattle.fault_defs.specs.declared.Refusal.TheVariants as refusal

@@ -1,20 +1,15 @@
 -- The sizes of a volume whose superblock has no wrong field.
-use Rattle.std.specs.Prelude.{◌≡◌, ℕ, zero, suc, ◌+◌, ◌-◌, ◌*◌, ◌/◌, ◌%◌, ◌<◌, ◌≤◌, ◌≢◌, min, Bool, true, false, not, ◌&&◌, ◌==◌, nat_le, nat_lt, if◌then◌else◌, Some, None, List, [], ◌∷◌, refl}
-use Rattle.std.specs.Int.{is_power_of_two, div_ceil}
+use Rattle.std.specs.Prelude.{◌≡◌, ℕ, ◌+◌, ◌-◌, ◌*◌, ◌/◌, ◌%◌, ◌≤◌, ◌≢◌, min, Bool, true, false, not, ◌&&◌, nat_le, if◌then◌else◌, Some, None, List, [], ◌∷◌, refl}
+use Rattle.std.specs.Int.{is_power_of_two}
 use Rattle.std.specs.Int.RustNames.{count_ones}
 use Rattle.std.proofs.lemmas.Nat.{ones_cat, zero_from_ones}
 use Rattle.std.proofs.lemmas.Bool.Decides.{Decides-eqb}
 use Rattle.std.proofs.Common.{arith, ap, sym, ◌∙◌}
 use Rattle.std.proofs.lemmas.Bool.{leb-true}
-use Rattle.std.proofs.lemmas.Grind.{div_ceil_times}
-use Rattle.std.proofs.Math.Nat.{mul-le-mul_right, mul-le-mul_left, div-mul-le_self}
-use Rattle.bytes_defs.specs.Numbers.{bytes_of_width}
-use Rattle.ufs_inode_defs.specs.Layout.{Layout, layout_1, layout_2, layout_of, pointer_len}
-use Rattle.ufs_inode_defs.specs.Numbers.{counted}
-use Rattle.ufs_inode_defs.specs.Superblock.{first_applying, wrong_parts, wrong_field, block_size, fragment_size, is_block_size}
-use Rattle.ufs_inode_defs.specs.Stream.{span, content_len}
+use Rattle.ufs_inode_defs.specs.Superblock.{first_applying, wrong_parts, wrong_field, block_size, is_block_size}
+use Rattle.ufs_inode_defs.specs.Stream.{content_len}
 use Rattle.ufs_inode_defs.specs.declared.superblock.Super.{Super}
-use Rattle.ufs_inode_defs.proofs.SoundSuper.{IsSound, is_sound}
+use Rattle.ufs_inode_defs.proofs.SoundSuper.{is_sound}
 
 it_holds : (test : Bool) → not test ≡ false → test ≡ true
 it_holds true holds = refl
@@ -49,7 +44,6 @@ block_at_most sup none = greatest_block (block_size sup) (first_fine (wrong_part
 
 pub block_bounds : (sup : Super) → wrong_field sup ≡ None → (4096 ≤ block_size sup) × (block_size sup ≤ 65536)
 block_bounds sup none = ((is_sound sup none).block, block_at_most sup none)
-
 
 -- ---- whole pieces of 512 bytes
 

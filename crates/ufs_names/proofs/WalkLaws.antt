@@ -1,20 +1,18 @@
 -- The names of a walk, one more at a time.
-use Rattle.std.specs.Prelude.{◌≡◌, ℕ, suc, ◌+◌, ◌<◌, ◌≤◌, Bool, true, false, nat_le, All, Option, None, Some, OnOk, Result, Ok, Err, List, [], ◌∷◌, ◌++◌, length, refl}
-use Rattle.std.proofs.Common.{arith, ap, sym, subst, ◌∙◌, append-nil}
+use Rattle.std.specs.Prelude.{◌≡◌, ℕ, ◌+◌, ◌<◌, ◌≤◌, true, false, nat_le, Option, None, Some, OnOk, Result, Ok, Err, List, [], ◌∷◌, ◌++◌, length, refl}
+use Rattle.std.proofs.Common.{arith, sym, subst, append-nil}
 use Rattle.std.proofs.lemmas.Bool.{le-leb, lt-leb}
-use Rattle.std.proofs.lemmas.List.Elements.{All-push, All-append}
+use Rattle.std.proofs.lemmas.List.Elements.{All-push}
 use Rattle.range_defs.specs.declared.Range.{Range}
 use Rattle.image_defs.specs.Ask.{Ask, Done, Stop}
 use Rattle.fault_defs.specs.declared.Refusal.{Refusal}
 use Rattle.fault_defs.specs.declared.Refusal.TheVariants as refusal
-use Rattle.fault_defs.specs.declared.Bound.TheVariants.{Names, PathBytes, Path}
-use Rattle.rx_store.specs.Answers.{Answers}
+use Rattle.fault_defs.specs.declared.Bound.TheVariants.{Names, PathBytes}
 use Rattle.rx_store.specs.declared.read_fault.ReadFault.{ReadFault}
 use Rattle.rx_store.specs.declared.read_fault.ReadFault.TheVariants.{Device, NoMemory, NotThis, Damaged, Unsupported, Limit}
 use Rattle.image_reads.specs.Steps.{EndBy, ReadsAs, IsRead}
-use Rattle.ufs_inode_defs.specs.declared.superblock.Super.{Super}
 use Rattle.ufs_volume_defs.specs.Names.{Named, Walk, counted_name, with_name, path_bytes, longest_path, most_names, most_path_bytes}
-use Rattle.ufs_names.specs.Walked.{IsNamed, IsWalked, KeptWithin, Settles, limited_path}
+use Rattle.ufs_names.specs.Walked.{KeptWithin, Settles}
 
 -- ---- one more name
 

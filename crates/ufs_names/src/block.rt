@@ -111,5 +111,14 @@ pub(crate) fn block_names<S: Store>(
 {
     let bytes = read_block(alloc, store, sup, directory.inode.size, block, looked)?;
     let entries = leading_entries(alloc, sup.order, block.at, bytes.items())?;
-    entries_names(alloc, store, sup, directory, block, walk, entries.items(), looked)
+    entries_names(
+        alloc,
+        store,
+        sup,
+        directory,
+        block,
+        walk,
+        entries.items(),
+        looked,
+    )
 }

@@ -86,10 +86,7 @@ fn found_name(
     ensures calm { result ≢ Err ReadFault.Device }
 {
     if is_directory(&inode) && walk.knows(entry.inode) {
-        return Err(ReadFault::Damaged(
-            Sort::DirTwice,
-            block.at + entry.at as u64,
-        ));
+        return Err(ReadFault::Damaged(Sort::DirTwice, block.at + entry.at as u64));
     }
     let name = name_by(alloc, sup, directory, block, entry, inode)?;
     walk.counted_name(name)

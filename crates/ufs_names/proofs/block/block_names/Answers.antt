@@ -1,5 +1,5 @@
-use Rattle.std.specs.Prelude.{refl, ◌≡◌, List, length}
-use Rattle.std.proofs.Common.{ℕ, ◌+◌, ◌%◌, ap, sym, subst, ◌∙◌, arith}
+use Rattle.std.specs.Prelude.{◌≡◌, length}
+use Rattle.std.proofs.Common.{ℕ, ◌+◌, ◌%◌, ap, sym, subst, ◌∙◌}
 use Rattle.disk_defs.specs.Disk.{told_image}
 use Rattle.ufs_inode_defs.specs.Stream.{content_len}
 use Rattle.ufs_names.proofs.SizeLaws.{content_whole}

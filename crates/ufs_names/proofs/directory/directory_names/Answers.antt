@@ -1,5 +1,5 @@
-use Rattle.std.specs.Prelude.{refl, length}
-use Rattle.std.proofs.Common.{◌+◌, ap, sym, subst, ◌∙◌, arith}
+use Rattle.std.specs.Prelude.{length}
+use Rattle.std.proofs.Common.{◌+◌, ap, ◌∙◌, arith}
 use Rattle.disk_defs.specs.Disk.{told_image}
 use Rattle.ufs_inode_defs.specs.Blocks.{runs_of}
 use Rattle.ufs_volume_defs.specs.Names.{with_runs}

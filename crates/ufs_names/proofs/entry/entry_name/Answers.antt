@@ -1,5 +1,5 @@
 use Rattle.std.specs.Prelude.{refl}
-use Rattle.std.proofs.Common.{◌≡◌, ◌+◌, arith, ap, sym, ◌∙◌}
+use Rattle.std.proofs.Common.{◌+◌, arith, ap}
 use Rattle.disk_defs.specs.Disk.{told_image}
 use Rattle.image_defs.proofs.Standing.{begins}
 use Rattle.image_reads.proofs.Steps.{comes_value, comes_fault, comes_rest, ends_with}

@@ -1,4 +1,4 @@
-use Rattle.std.proofs.Common.{◌≡◌, ap, sym, ◌∙◌, arith}
+use Rattle.std.proofs.Common.{ap, ◌∙◌}
 use Rattle.name_defs.specs.Texts.{bytes_text}
 use Rattle.rx_tree.specs.Path.{joined_path}
 use Rattle.ufs_volume_defs.specs.Names.{name_by}

@@ -1,7 +1,7 @@
-use Rattle.std.proofs.Common.{◌+◌, ap, sym, subst, ◌∙◌, arith, rules}
+use Rattle.std.proofs.Common.{◌+◌, ap, subst, ◌∙◌}
 use Rattle.disk_defs.specs.Disk.{told_image}
 use Rattle.image_defs.specs.Through.{through}
-use Rattle.image_reads.proofs.Steps.{comes_done, ends_with, through_value, through_fault, through_ends}
+use Rattle.image_reads.proofs.Steps.{ends_with, through_value, through_fault}
 use Rattle.image_reads.specs.Steps.{ReadsAs}
 use Rattle.rx_store.specs.declared.read_fault.ReadFault.{ReadFault}
 use Rattle.std.specs.Prelude.{Ok, Err, Result}

@@ -1,14 +1,13 @@
-use Rattle.std.specs.Prelude.{◌≡◌, ◌+◌, ◌*◌, ◌<◌, List, [], Some, None, refl}
+use Rattle.std.specs.Prelude.{◌*◌, ◌<◌, List, refl}
 use Rattle.fault_defs.specs.declared.Refusal.TheVariants.{Damaged}
 use Rattle.fault_defs.specs.declared.Sort.TheVariants.{DirSize}
-use Rattle.std.proofs.Common.{ℕ, Ok, Err, ap, sym, subst, ◌∙◌, arith}
+use Rattle.std.proofs.Common.{Ok, Err, ap, sym, subst, ◌∙◌, arith}
 use Rattle.std.specs.List.{All}
 use Rattle.std.proofs.lemmas.List.Elements.{All-push}
 use Rattle.piece_defs.specs.Places.{place_through}
 use Rattle.ufs_inode_defs.specs.Superblock.{block_size}
 use Rattle.ufs_inode_defs.proofs.BlockSteps.{block_begins}
 use Rattle.ufs_volume_defs.specs.Names.{Block}
-use Rattle.ufs_names.specs.Passed.{HasPassed}
 use Rattle.ufs_names.specs.Walked.{IsPlacedBlock}
 use Rattle.ufs_names.proofs.PlaceLaws.{AreFound, found_none, found_more, found_hole, found_all, passed_none, passed_later}
 use Rattle.ufs_names.proofs.places.directory_blocks.Goals as goal

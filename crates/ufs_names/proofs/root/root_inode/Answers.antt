@@ -1,4 +1,4 @@
-use Rattle.std.proofs.Common.{◌+◌, ap, sym, ◌∙◌, arith}
+use Rattle.std.proofs.Common.{◌+◌, sym, ◌∙◌, arith}
 use Rattle.disk_defs.specs.Disk.{told_image}
 use Rattle.ufs_inode_defs.specs.Layout.{layout_of}
 use Rattle.ufs_names.proofs.WalkLaws.{kept_one}

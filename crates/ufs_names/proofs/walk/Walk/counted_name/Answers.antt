@@ -1,4 +1,4 @@
-use Rattle.std.proofs.Common.{◌≡◌, length, ap, sym, ◌∙◌, arith}
+use Rattle.std.proofs.Common.{length, ap, sym, ◌∙◌, arith}
 use Rattle.image_defs.specs.Ask.{Done}
 use Rattle.ufs_volume_defs.specs.Names.{path_bytes}
 use Rattle.ufs_names.proofs.WalkLaws.{too_many, too_many_bytes, one_more}
