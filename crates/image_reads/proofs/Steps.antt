@@ -15,7 +15,8 @@ use Rattle.rx_store.specs.declared.read_fault.ReadFault.TheVariants.{Device, NoM
 use Rattle.rx_store.specs.Answers.{Answers}
 use Rattle.rx_store.specs.ReadFaults.{fault_of}
 use Rattle.image_defs.specs.Runs.{with_value}
-use Rattle.image_reads.specs.Steps.{IsRead, ReadsAs, IsNoRefusal, EndBy, KeptWithin}
+use Rattle.image_reads.specs.Steps.{ReadsAs, IsNoRefusal, EndBy, KeptWithin}
+
 -- a fault says of a program what it says of another that stops with the same refusals
 fault_says : {X Y : Type 0} (fault : ReadFault) (one : Result X Refusal) (other : Result Y Refusal) → ((e : Refusal) → one ≡ Err e → other ≡ Err e)
     → (let from : Result X ReadFault = Err fault in Answers from one) → (let to : Result Y ReadFault = Err fault in Answers to other)
@@ -61,6 +62,7 @@ module _ {Y : Type 0} (told : Option (List ℕ)) (whole : Ask Refusal Y) (before
       behind : (image : List ℕ) (result : Result Y ReadFault) → StandsIn image whole before left now → OnOk result (looked ≡ now ++ visits image left) → OnOk result (looked ≡ before ++ visits image whole)
       behind image (Ok y) come looks = looks ∙ sym come.looks
       behind image (Err fault) come looks = tt
+
       by_told : (found : Option (List ℕ)) → IsCome found whole before left now → ReadsAs found left now looked result → ReadsAs found whole before looked result
       by_told None come read = tt
       by_told (Some image) come read = record {
@@ -85,6 +87,7 @@ module _ {Y : Type 0} (told : Option (List ℕ)) (whole : Ask Refusal Y) (before
       by_fault image (refusal.Damaged sort place) gives = gives
       by_fault image (refusal.Unsupported what place) gives = gives
       by_fault image (refusal.Limit bound number) gives = gives
+
       by_told : (found : Option (List ℕ)) → IsCome found whole before (Stop e) now → ReadsAs found whole before looked (Err (fault_of e))
       by_told None come = tt
       by_told (Some image) come = record { given = by_fault image e come.gives; looks = tt }

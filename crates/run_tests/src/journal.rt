@@ -88,9 +88,9 @@ fn small_store(alloc: Global) -> Result<MemStore, AllocError> {
 }
 
 #[test]
-fn no_call_after_the_tenth(rt: HostRuntime) -> Result<(), Fail> {
+fn no_call_after_the_eleventh(rt: HostRuntime) -> Result<(), Fail> {
     let mut store = small_store(rt.alloc())?;
-    store.fail_at((11..40).collect(rt.alloc())?);
+    store.fail_at((12..40).collect(rt.alloc())?);
     let (status, text) = planned(rt.alloc(), &mut store)?;
     assert_eq!(rt; status, Status::Done);
     assert_eq!(rt; text.as_slice(), REPORT);

@@ -207,7 +207,10 @@ fn a_wrong_superblock_is_damage(rt: HostRuntime) -> Result<(), Fail> {
     ] {
         let place = SUPERBLOCK + field as usize;
         let status = Status::Damaged(Sort::SuperField, 65_536 + field);
-        assert!(rt; are_all_refused(alloc, &[(place, bytes)], status)?, "field {field}");
+        assert!(rt;
+            are_all_refused(alloc, &[(place, bytes)], status)?,
+            "field {field}"
+        );
     }
     // fragments of 512 bytes aren't those of a block; UFS1's magic comes first; the inodes lie behind the end
     let status = Status::Damaged(Sort::SuperField, 65_592);
@@ -223,7 +226,13 @@ fn a_wrong_superblock_is_damage(rt: HostRuntime) -> Result<(), Fail> {
 fn other_kinds_are_not_built_and_none_is_not_recognised(rt: HostRuntime) -> Result<(), Fail> {
     let alloc = rt.alloc();
     assert!(rt; are_all_refused(alloc, &[(1024, b"H+\x00\x04")], Status::NotBuilt)?);
-    assert!(rt; are_all_refused(alloc, &[(SUPERBLOCK + 1372, b"\x00")], Status::NotRecognised)?);
+    assert!(rt;
+        are_all_refused(
+            alloc,
+            &[(SUPERBLOCK + 1372, b"\x00")],
+            Status::NotRecognised
+        )?
+    );
     assert_eq!(rt; Status::NotRecognised.code(), 3);
     Ok(())
 }
@@ -235,18 +244,30 @@ fn a_wrong_root_is_damage(rt: HostRuntime) -> Result<(), Fail> {
     assert!(rt; are_all_refused(alloc, &[(ROOT, b"\xED\x81")], kind)?);
     // no whole blocks of 512 bytes, a second block that is a hole, and a first one
     let size = Status::Damaged(Sort::DirSize, 74_256);
-    assert!(rt; are_all_refused(
-        alloc,
-        &[(ROOT + 16, b"\x01\x02"), (ROOT + 16, b"\x00\x12"), (ROOT + 112, b"\x00")],
-        size,
-    )?);
+    assert!(rt;
+        are_all_refused(
+            alloc,
+            &[
+                (ROOT + 16, b"\x01\x02"),
+                (ROOT + 16, b"\x00\x12"),
+                (ROOT + 112, b"\x00")
+            ],
+            size,
+        )?
+    );
     let pointer = Status::Damaged(Sort::BlockPointer, 74_352);
     assert!(rt; are_all_refused(alloc, &[(ROOT + 112, b"\x40")], pointer)?);
     // a length of 4, one past the block, and an empty name
     let entry = Status::Damaged(Sort::DirEntry, 81_920);
     assert!(rt; are_all_refused(alloc, &[(ENTRIES + 4, b"\x04")], entry)?);
     let entry = Status::Damaged(Sort::DirEntry, 81_944);
-    assert!(rt; are_all_refused(alloc, &[(ENTRIES + 28, b"\xEC\x01"), (ENTRIES + 31, b"\x00")], entry)?);
+    assert!(rt;
+        are_all_refused(
+            alloc,
+            &[(ENTRIES + 28, b"\xEC\x01"), (ENTRIES + 31, b"\x00")],
+            entry
+        )?
+    );
     // an inode past the groups, and the root once more
     let number = Status::Damaged(Sort::InodeNumber, 81_944);
     assert!(rt; are_all_refused(alloc, &[(ENTRIES + 24, b"\x10")], number)?);
@@ -270,11 +291,17 @@ fn a_wrong_file_is_damage(rt: HostRuntime) -> Result<(), Fail> {
     // pointers that are negative, that leave every image, and that leave this one
     let pointer = Status::Damaged(Sort::BlockPointer, 74_608);
     let greatest = b"\xFF\xFF\xFF\xFF\xFF\xFF\xFF\x7F";
-    assert!(rt; are_all_refused(
-        alloc,
-        &[(FILE + 112, longest), (FILE + 112, greatest), (FILE + 112, b"\x40")],
-        pointer,
-    )?);
+    assert!(rt;
+        are_all_refused(
+            alloc,
+            &[
+                (FILE + 112, longest),
+                (FILE + 112, greatest),
+                (FILE + 112, b"\x40")
+            ],
+            pointer,
+        )?
+    );
     let dead = Status::Damaged(Sort::DeadInode, 74_496);
     assert!(rt; are_all_refused(alloc, &[(FILE, b"\x00\x00")], dead)?);
     Ok(())

@@ -1,8 +1,8 @@
 -- What a pointer to a block maps, at each exit of the reader.
-use Rattle.std.specs.Prelude.{◌≡◌, ℕ, zero, suc, ◌+◌, ◌<◌, ◌≤◌, ℤ, true, false, nat_le, IfOk, IsErr, IsErrAnd, Option, Some, None, Result, Ok, Err, refl}
+use Rattle.std.specs.Prelude.{◌≡◌, ℕ, ◌+◌, ◌<◌, ◌≤◌, true, false, nat_le, IfOk, IsErr, IsErrAnd, Option, Some, None, Result, Ok, Err, refl}
 use Rattle.std.proofs.Common.{arith, ap, sym, ◌∙◌, subst}
 use Rattle.std.proofs.lemmas.Bool.{lt-leb, le-leb}
-use Rattle.image_defs.specs.Ask.{Ask, Done, Stop}
+use Rattle.image_defs.specs.Ask.{Ask, Done}
 use Rattle.rx_store.specs.Answers.{Answers}
 use Rattle.rx_store.specs.declared.read_fault.ReadFault.{ReadFault}
 use Rattle.rx_store.specs.declared.read_fault.ReadFault.TheVariants.{Device, NoMemory, NotThis, Damaged, Unsupported, Limit}

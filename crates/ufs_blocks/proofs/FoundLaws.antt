@@ -1,5 +1,5 @@
 -- What is found of an inode in an image that isn't too long.
-use Rattle.std.specs.Prelude.{◌≡◌, ℕ, ◌+◌, ◌≤◌, Bool, true, nat_le, Option, Some, None, IfSome, Result, Ok, All, List, [], ◌++◌, length}
+use Rattle.std.specs.Prelude.{◌≡◌, ℕ, ◌+◌, ◌≤◌, nat_le, Option, Some, None, IfSome, Result, Ok, All, List, [], ◌++◌, length}
 use Rattle.std.proofs.Common.{ap, sym, ◌∙◌, subst, arith}
 use Rattle.std.proofs.lemmas.Bool.{le-leb}
 use Rattle.std.proofs.lemmas.List.Elements.{All-nil}
@@ -7,11 +7,10 @@ use Rattle.range_defs.specs.declared.Range.{Range}
 use Rattle.range_defs.specs.declared.TheConstants.{LONGEST_IMAGE}
 use Rattle.range_defs.specs.Places.{covers, IsRangeList, longest_ranges}
 use Rattle.range_defs.proofs.RangeLaws.{covers-past, ends_where_covered, same_as_longest_ranges}
-use Rattle.image_defs.specs.Ask.{result_of, visits}
+use Rattle.image_defs.specs.Ask.{visits}
 use Rattle.image_defs.specs.Runs.{with_value}
 use Rattle.image_defs.proofs.Runs.{result_check_true}
 use Rattle.image_reads.specs.Steps.{ReadsAs, KeptWithin}
-use Rattle.fault_defs.specs.declared.Refusal.{Refusal}
 use Rattle.fault_defs.specs.declared.Refusal.TheVariants.{Limit}
 use Rattle.fault_defs.specs.declared.Bound.TheVariants.{Image}
 use Rattle.rx_tree.specs.PartValue.{PartValue}

@@ -1,5 +1,5 @@
 -- What a pointer maps through blocks of pointers, at each exit of the reader and from pointer to pointer.
-use Rattle.std.specs.Prelude.{◌≡◌, ◌⊎◌, ℕ, zero, suc, ◌+◌, ◌-◌, ◌*◌, ◌<◌, ◌≤◌, ℤ, pos, Bool, true, false, nat_le, IfOk, IsErr, IsErrAnd, Option, Some, None, IfSome, Result, Ok, Err, List, [], ◌∷◌, length, drop, take, get_or, refl}
+use Rattle.std.specs.Prelude.{◌≡◌, ℕ, zero, suc, ◌+◌, ◌-◌, ◌*◌, ◌<◌, ◌≤◌, pos, true, false, nat_le, IsErr, IsErrAnd, Option, Some, None, Result, Ok, Err, List, length, drop, get_or, refl}
 use Rattle.std.specs.Int.{Width, cast_signed}
 use Rattle.std.proofs.Common.{arith, ap, sym, ◌∙◌, subst, inl, inr, ⊎_elim}
 use Rattle.std.proofs.lemmas.Bool.{lt-leb, le-leb}

@@ -1,17 +1,16 @@
 -- The parts of an inode, at each exit of the reader.
-use Rattle.std.specs.Prelude.{◌≡◌, ℕ, ◌+◌, ◌≤◌, Bool, true, false, not, ◌&&◌, ◌||◌, ◌==◌, if◌then◌else◌, codes, IsErr, IsErrAnd, Option, Result, Ok, Err, List, [], ◌∷◌, ◌++◌, refl}
+use Rattle.std.specs.Prelude.{◌≡◌, ℕ, Bool, true, false, not, ◌&&◌, ◌||◌, ◌==◌, if◌then◌else◌, codes, IsErr, IsErrAnd, Option, Result, Ok, Err, List, [], ◌∷◌, ◌++◌, refl}
 use Rattle.std.proofs.Common.{ap, sym, ◌∙◌, subst}
 use Rattle.range_defs.specs.declared.Range.{Range}
 use Rattle.range_defs.specs.Places.{covers, IsRangeList}
 use Rattle.range_defs.proofs.RangeLaws.{same_range_list}
-use Rattle.image_defs.specs.Ask.{Ask, Done, Stop, ◌>>=◌}
+use Rattle.image_defs.specs.Ask.{Ask, Done, ◌>>=◌}
 use Rattle.image_defs.specs.Standing.{IsCome}
 use Rattle.image_defs.specs.Through.{through}
 use Rattle.image_defs.proofs.Standing.{begins, comes_to}
 use Rattle.image_reads.specs.Steps.{ReadsAs}
 use Rattle.image_reads.proofs.Steps.{comes_value, comes_fault, comes_done, comes_rest, ends_with}
 use Rattle.rx_store.specs.declared.read_fault.ReadFault.{ReadFault}
-use Rattle.rx_tree.specs.PartValue.{PartValue}
 use Rattle.rx_tree.specs.declared.part.Role.TheVariants as roles
 use Rattle.rx_tree.specs.declared.file.Kind.{Kind}
 use Rattle.rx_tree.specs.declared.file.Kind.TheVariants.{File, Dir, Link, Other, System}
@@ -21,7 +20,7 @@ use Rattle.ufs_inode_defs.specs.Stream.{content_stream, extended_stream}
 use Rattle.ufs_inode_defs.specs.Blocks.{Laid, runs_of, stream_blocks}
 use Rattle.ufs_inode_defs.specs.declared.superblock.Super.{Super}
 use Rattle.ufs_inode_defs.specs.declared.inode.Inode.{Inode}
-use Rattle.ufs_volume_defs.specs.Files.{Section, Parted, part_of, with_part, section_part, kind_of, sections_by, sections_of, inode_parts}
+use Rattle.ufs_volume_defs.specs.Files.{Section, Parted, with_part, section_part, kind_of, sections_by, sections_of, inode_parts}
 use Rattle.ufs_blocks.specs.Sections.{has_parts, has_content, has_extended, content_section, extended_section, extended_list}
 use Rattle.ufs_blocks.specs.UnderWay.{Settles}
 use Rattle.ufs_blocks.proofs.DirectLaws.{fault_settles}

@@ -1,17 +1,17 @@
 -- The sizes of a volume whose superblock has no wrong field.
-use Rattle.std.specs.Prelude.{◌≡◌, ℕ, zero, suc, ◌+◌, ◌-◌, ◌*◌, ◌/◌, ◌<◌, ◌≤◌, min, Bool, true, false, not, ◌&&◌, ◌==◌, nat_le, nat_lt, if◌then◌else◌, Some, None, List, [], ◌∷◌, refl}
+use Rattle.std.specs.Prelude.{◌≡◌, ℕ, zero, suc, ◌+◌, ◌*◌, ◌<◌, ◌≤◌, Bool, true, false, not, ◌&&◌, ◌==◌, nat_le, if◌then◌else◌, Some, None, List, [], ◌∷◌, refl}
 use Rattle.std.specs.Int.{is_power_of_two, div_ceil}
-use Rattle.std.proofs.Common.{arith, ap, sym, ◌∙◌}
+use Rattle.std.proofs.Common.{arith, ap}
 use Rattle.std.proofs.lemmas.Bool.{leb-true}
 use Rattle.std.proofs.lemmas.Grind.{div_ceil_times}
 use Rattle.std.proofs.Math.Nat.{mul-le-mul_right, mul-le-mul_left, div-mul-le_self}
 use Rattle.bytes_defs.specs.Numbers.{bytes_of_width}
-use Rattle.ufs_inode_defs.specs.Layout.{Layout, layout_1, layout_2, layout_of, pointer_len}
+use Rattle.ufs_inode_defs.specs.Layout.{Layout, layout_1, layout_2, pointer_len}
 use Rattle.ufs_inode_defs.specs.Numbers.{counted}
 use Rattle.ufs_inode_defs.specs.Superblock.{first_applying, wrong_parts, wrong_field, block_size, fragment_size, is_block_size}
-use Rattle.ufs_inode_defs.specs.Stream.{span, content_len}
+use Rattle.ufs_inode_defs.specs.Stream.{content_len}
 use Rattle.ufs_inode_defs.specs.declared.superblock.Super.{Super}
-use Rattle.ufs_inode_defs.proofs.SoundSuper.{IsSound, is_sound}
+use Rattle.ufs_inode_defs.proofs.SoundSuper.{is_sound}
 
 it_holds : (test : Bool) → not test ≡ false → test ≡ true
 it_holds true holds = refl

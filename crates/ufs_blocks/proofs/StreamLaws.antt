@@ -1,5 +1,5 @@
 -- The streams of an inode, at each exit of the reader.
-use Rattle.std.specs.Prelude.{◌≡◌, ◌⊎◌, ℕ, zero, suc, ◌+◌, ◌-◌, ◌*◌, ◌<◌, ◌≤◌, min, ℤ, pos, Bool, true, false, ◌||◌, nat_lt, IfOk, IsErr, IsErrAnd, Option, Some, None, Result, Ok, Err, List, [], ◌∷◌, length, drop, get_or, refl}
+use Rattle.std.specs.Prelude.{◌≡◌, ℕ, zero, suc, ◌+◌, ◌*◌, ◌<◌, ◌≤◌, min, ℤ, pos, Bool, true, false, ◌||◌, nat_lt, IsErr, IsErrAnd, Option, None, Result, Ok, Err, List, [], ◌∷◌, length, drop, get_or, refl}
 use Rattle.std.specs.Int.{div_ceil}
 use Rattle.std.proofs.Common.{arith, ap, sym, ◌∙◌, subst, inl, inr, ⊎_elim, drop-cons, drop_of_length-le}
 use Rattle.std.proofs.lemmas.Bool.{cases_lt, ltb-false}
@@ -7,20 +7,19 @@ use Rattle.std.proofs.lemmas.Grind.{div_ceil_times}
 use Rattle.std.proofs.lemmas.List.Elements.{All-nil}
 use Rattle.std.proofs.Math.Nat.{mul-le-mul_right, mul_comm}
 use Rattle.range_defs.specs.declared.Range.{Range}
-use Rattle.image_defs.specs.Ask.{Ask, Done, Stop, result_of, ◌>>=◌}
+use Rattle.image_defs.specs.Ask.{Ask, Done, result_of, ◌>>=◌}
 use Rattle.image_defs.specs.Standing.{IsCome}
 use Rattle.image_defs.specs.Through.{through}
 use Rattle.image_defs.proofs.Standing.{begins, comes_to}
 use Rattle.image_reads.specs.Steps.{ReadsAs}
-use Rattle.image_reads.proofs.Steps.{comes_value, comes_fault, comes_done, comes_rest, ends_with}
+use Rattle.image_reads.proofs.Steps.{comes_value, comes_fault, comes_done, ends_with}
 use Rattle.piece_defs.specs.Covering.{covers_from}
 use Rattle.rx_store.specs.declared.read_fault.ReadFault.{ReadFault}
 use Rattle.fault_defs.specs.declared.Refusal.{Refusal}
-use Rattle.ufs_inode_defs.specs.Layout.{pointer_len}
 use Rattle.ufs_inode_defs.specs.Superblock.{wrong_field, block_size}
-use Rattle.ufs_inode_defs.specs.Inode.{reach, is_too_long, is_ext_too_long, sound_inode}
-use Rattle.ufs_inode_defs.specs.Stream.{Pointer, Stream, pointers_from, span, block_count}
-use Rattle.ufs_inode_defs.specs.Blocks.{Laid, runs_of, most_runs, none_laid, mapped_blocks, rising_blocks, stream_blocks}
+use Rattle.ufs_inode_defs.specs.Inode.{reach, sound_inode}
+use Rattle.ufs_inode_defs.specs.Stream.{Pointer, pointers_from, span, block_count}
+use Rattle.ufs_inode_defs.specs.Blocks.{Laid, most_runs, none_laid, mapped_blocks, rising_blocks, stream_blocks}
 use Rattle.ufs_inode_defs.specs.declared.superblock.Super.{Super}
 use Rattle.ufs_inode_defs.specs.declared.inode.Inode.{Inode}
 use Rattle.ufs_inode_defs.proofs.BlockSteps.{blocks_hold}

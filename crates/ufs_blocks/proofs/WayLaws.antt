@@ -1,25 +1,23 @@
 -- What holds of a walk that is under way holds after each of its steps.
-use Rattle.std.specs.Prelude.{◌≡◌, ℕ, zero, suc, ◌+◌, ◌-◌, ◌*◌, ◌<◌, ◌≤◌, min, ℤ, pos, negsuc, Bool, true, false, nat_le, nat_lt, if◌then◌else◌, Option, Some, None, Result, Ok, Err, List, [], ◌∷◌, ◌++◌, length, refl}
+use Rattle.std.specs.Prelude.{◌≡◌, ℕ, zero, suc, ◌+◌, ◌-◌, ◌*◌, ◌<◌, ◌≤◌, min, ℤ, pos, negsuc, Bool, true, false, nat_lt, if◌then◌else◌, Option, Some, None, Result, Ok, Err, [], ◌∷◌, ◌++◌, refl}
 use Rattle.std.specs.Int.{div_ceil}
-use Rattle.std.proofs.Common.{arith, ap, sym, ◌∙◌, subst, inl, inr}
+use Rattle.std.proofs.Common.{arith, ap, sym, ◌∙◌, subst}
 use Rattle.std.proofs.lemmas.Bool.{le-ltb, ltb-true}
 use Rattle.std.proofs.lemmas.Grind.{div_ceil_times}
 use Rattle.std.proofs.lemmas.List.Elements.{All-cons, All-nil, All-append}
 use Rattle.std.proofs.Math.Nat.{mul-le-mul_right}
 use Rattle.range_defs.specs.declared.Range.{Range}
 use Rattle.range_defs.specs.Places.{IsRangeList}
-use Rattle.image_defs.specs.Ask.{Ask, Done, Stop, check, ◌>>◌}
+use Rattle.image_defs.specs.Ask.{Ask, Stop, check, ◌>>◌}
 use Rattle.piece_defs.specs.Covering.{covers_from}
 use Rattle.rx_tree.specs.Within.{AreRangesWithin}
-use Rattle.rx_store.specs.Answers.{Answers}
 use Rattle.rx_store.specs.declared.read_fault.ReadFault.{ReadFault}
-use Rattle.rx_store.specs.declared.read_fault.ReadFault.TheVariants.{Device, NoMemory, NotThis, Damaged, Unsupported, Limit}
 use Rattle.fault_defs.specs.declared.Refusal.{Refusal}
 use Rattle.fault_defs.specs.declared.Refusal.TheVariants as refusal
 use Rattle.fault_defs.specs.declared.Sort.TheVariants.{BlockPointer}
 use Rattle.ufs_inode_defs.specs.Superblock.{wrong_field, block_size, fragment_size}
 use Rattle.ufs_inode_defs.specs.Stream.{Pointer, block_count, content_len, allocated_len}
-use Rattle.ufs_inode_defs.specs.Blocks.{Laid, behind, runs_of, most_runs, with_hole, with_block, counted_runs, mapped_blocks, led, lies_within, fragment_place}
+use Rattle.ufs_inode_defs.specs.Blocks.{Laid, behind, runs_of, most_runs, with_hole, with_block, led, lies_within, fragment_place}
 use Rattle.ufs_inode_defs.specs.declared.superblock.Super.{Super}
 use Rattle.ufs_inode_defs.proofs.BlockSteps.{block_begins}
 use Rattle.ufs_inode_defs.proofs.SoundSuper.{is_sound, has_pointers}

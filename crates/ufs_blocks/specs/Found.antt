@@ -3,7 +3,7 @@ use Rattle.std.specs.Prelude.{ℕ, nat_le, Result, List, length}
 use Rattle.range_defs.specs.declared.Range.{Range}
 use Rattle.range_defs.specs.declared.TheConstants.{LONGEST_IMAGE}
 use Rattle.range_defs.specs.Places.{covers, longest_ranges}
-use Rattle.image_defs.specs.Ask.{Ask, result_of, visits, check, ◌>>=◌, ◌>>◌}
+use Rattle.image_defs.specs.Ask.{Ask, result_of, visits, check, ◌>>◌}
 use Rattle.image_defs.specs.Runs.{with_value}
 use Rattle.rx_tree.specs.PartValue.{PartValue}
 use Rattle.fault_defs.specs.declared.Refusal.{Refusal}

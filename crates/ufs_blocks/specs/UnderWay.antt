@@ -1,5 +1,5 @@
 -- A walk over the pointers of a stream that is under way: what holds of it over every store.
-use Rattle.std.specs.Prelude.{◌≡◌, ◌⊎◌, ℕ, zero, suc, ◌+◌, ◌*◌, ◌<◌, ◌≤◌, min, ℤ, pos, negsuc, true, All, if◌then◌else◌, Option, Some, None, Result, Ok, Err, List, []}
+use Rattle.std.specs.Prelude.{◌≡◌, ◌⊎◌, ℕ, zero, suc, ◌+◌, ◌*◌, ◌<◌, ◌≤◌, min, ℤ, pos, negsuc, true, if◌then◌else◌, Option, Some, None, Result, Ok, Err, []}
 use Rattle.range_defs.specs.Places.{IsRangeList}
 use Rattle.image_defs.specs.Ask.{Ask, Done, Stop}
 use Rattle.piece_defs.specs.Covering.{covers_from}

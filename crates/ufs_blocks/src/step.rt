@@ -50,7 +50,12 @@ fn put(pieces: &mut Vec<Piece>, piece: Piece) -> Result<(), AllocError>
 }
 
 /// A hole of some blocks.
-pub(crate) fn with_hole(sup: &Super, size: u64, blocks: u64, mut laid: Laid) -> Result<Laid, ReadFault>
+pub(crate) fn with_hole(
+    sup: &Super,
+    size: u64,
+    blocks: u64,
+    mut laid: Laid,
+) -> Result<Laid, ReadFault>
     requires sound { wrong_field sup.now ≡ None }
     requires near { sup.now.at + sup.now.len ≤ LONGEST_IMAGE }
     requires short { size ≤ 2 ^ 62 }

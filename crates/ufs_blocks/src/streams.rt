@@ -125,7 +125,11 @@ fn pointer_places(sup: &Super) -> (u64, u64)
     ensures indirect { result.1 ≡ (layout_of sup.now.version).indirect_at }
     ensures small { result.0 + result.1 ≤ 512 }
 {
-    if sup.version == 1 { (40, 88) } else { (112, 208) }
+    if sup.version == 1 {
+        (40, 88)
+    } else {
+        (112, 208)
+    }
 }
 
 /// The blocks of an inode's content, where so many runs were counted before.
@@ -157,14 +161,7 @@ pub fn content_blocks<S: Store>(
     let (direct_at, indirect_at) = pointer_places(sup);
     let none = none_laid(alloc, runs);
     let at = inode.at + direct_at;
-    let direct = direct_blocks(
-        sup,
-        inode.size,
-        at,
-        pointer_len(sup),
-        &inode.direct,
-        none,
-    )?;
+    let direct = direct_blocks(sup, inode.size, at, pointer_len(sup), &inode.direct, none)?;
     let rising_at = inode.at + indirect_at;
     let laid = rising_blocks(
         alloc,

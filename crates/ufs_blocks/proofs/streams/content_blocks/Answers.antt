@@ -1,7 +1,7 @@
-use Rattle.std.proofs.Common.{◌≡◌, ◌+◌, List, length, arith, ap, sym, ◌∙◌, refl}
+use Rattle.std.proofs.Common.{◌+◌, length, arith, ap, refl}
 use Rattle.disk_defs.specs.Disk.{told_image}
 use Rattle.ufs_inode_defs.specs.Layout.{layout_of, pointer_len}
-use Rattle.ufs_inode_defs.specs.Stream.{Pointer, pointers_from}
+use Rattle.ufs_inode_defs.specs.Stream.{pointers_from}
 use Rattle.ufs_blocks.proofs.MappedLaws.{settled_reads}
 use Rattle.ufs_blocks.proofs.StreamLaws.{short_content, same_pointers, direct_refused, stream_reads, stream_stops, content_covered}
 use Rattle.ufs_blocks.proofs.streams.content_blocks.Goals as goal

@@ -1,4 +1,4 @@
-use Rattle.std.proofs.Common.{◌+◌, arith, ap, sym, ◌∙◌, refl}
+use Rattle.std.proofs.Common.{arith, ap, ◌∙◌, refl}
 use Rattle.disk_defs.specs.Disk.{told_image}
 use Rattle.ufs_inode_defs.specs.Layout.{pointer_len}
 use Rattle.ufs_blocks.proofs.StreamLaws.{pointer_is, first_faults, second_faults, third_faults, third_ends}

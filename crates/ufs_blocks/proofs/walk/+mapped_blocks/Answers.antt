@@ -1,4 +1,4 @@
-use Rattle.std.proofs.Common.{ℕ, suc, ◌≡◌, ◌+◌, ◌-◌, ◌*◌, ◌≤◌, ◌<◌, Option, IfSome, Ok, List, length, drop, arith, ap, sym, ◌∙◌, subst, refl, inl}
+use Rattle.std.proofs.Common.{ℕ, ◌≡◌, ◌+◌, ◌-◌, ◌*◌, ◌≤◌, Option, IfSome, length, arith, ap, sym, ◌∙◌, subst, refl, inl}
 use Rattle.disk_defs.specs.Disk.{told_image}
 use Rattle.ufs_inode_defs.specs.Blocks.{Laid, with_hole}
 use Rattle.ufs_blocks.proofs.DirectLaws.{hole_way_after}

@@ -1,4 +1,4 @@
-use Rattle.std.proofs.Common.{ℕ, ◌+◌, ◌≤◌, Option, IfSome, arith, ap, sym, ◌∙◌, subst}
+use Rattle.std.proofs.Common.{ℕ, ◌+◌, ◌≤◌, Option, IfSome, arith, ap, ◌∙◌, subst}
 use Rattle.ufs_inode_defs.specs.Blocks.{Laid}
 use Rattle.ufs_inode_defs.specs.Stream.{allocated_len}
 use Rattle.ufs_blocks.proofs.DirectLaws.{direct_past, direct_fault, direct_hole, direct_there, hole_way_after, block_way_after}
