@@ -52,8 +52,9 @@ fn the_highest_byte_may_come_first(rt: HostRuntime) -> Result<(), Fail> {
         .ok()
         .ok_or("no entries")?;
     assert_eq!(rt; found.items().len(), 1);
-    assert_eq!(rt; (found.items()[0].inode, found.items()[0].len), (9, 512));
-    assert!(rt; found.items()[0].name == b"bc".as_slice());
+    let first = &found.items()[0];
+    assert_eq!(rt; (first.at, first.inode, first.len), (0, 9, 512));
+    assert!(rt; first.name == b"bc".as_slice());
     Ok(())
 }
 
