@@ -6,6 +6,7 @@ pub mod PlanCommand
 pub mod PlanAnswerLaw
 pub mod JournalFacts
 pub mod RedactCommand
+pub mod KeptTree
 pub mod ResumeCommand
 pub mod ReportCommand
 pub mod AnswerLaws

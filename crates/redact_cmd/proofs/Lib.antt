@@ -1,4 +1,5 @@
 pub mod Lines
 pub mod Says
+pub mod Kept
 pub mod Resuming
 pub mod Redacting

@@ -7,6 +7,7 @@ ghost use Rattle.disk_defs.specs.declared.Area.{Area as AreaValue};
 ghost use Rattle.cmd_defs.specs.Outcome.{IfBothTold, IfTextAndHeld, IsCalm, IsRefusal, IsSilent};
 ghost use Rattle.cmd_defs.specs.Calls.{IsUnbuilt, MayCall, ReadsRules, faults_on, RoseSomewhere};
 ghost use Rattle.cmd_defs.specs.JournalFacts.{IsUntouched};
+ghost use Rattle.cmd_defs.specs.KeptTree.{KeepsTree};
 ghost use Rattle.cmd_defs.specs.RedactCommand.{RedactAnswers, RedactSays};
 ghost use Rattle.cmd_defs.specs.ReportCommand.{ReportAnswers, ReportSays};
 ghost use Rattle.cmd_defs.specs.ResumeCommand.{ResumeAnswers, ResumeSays};
@@ -47,13 +48,17 @@ pub fn run<S: Store, R: Source, K: Sink>(
     ensures usage { (result ≡ Status.Usage) ↔ (command_of (map (λ word. string_bytes word) words.now) ≡ None) }
     ensures unbuilt_commands { IfSome (command_of (map (λ word. string_bytes word) words.now)) (λ command. IsUnbuilt command → result ≡ Status.NotBuilt) }
 
-    // What a status of each command says of the rule text, of what the store held and left, and of what was written.
+    // What a status of each command says of the rule text, of what the store held and left, and of what was written. A redaction
+    // that is done leaves the image's tree as it was, and the bytes of the files that meet no planned byte.
     ensures plan { command_of (map (λ word. string_bytes word) words.now) ≡ Some Command.Plan
         → IfBothTold (R.rest rules.old) (told_image (S.state store.old)) (λ text image. PlanSays result text image
         (λ report. K.taken out.new ≡ taken_with (K.taken out.old) report) (TookPrefixOf (K.taken out.old) (K.taken out.new))) }
     ensures redact { command_of (map (λ word. string_bytes word) words.now) ≡ Some Command.Redact
         → IfTextAndHeld (R.rest rules.old) (held (S.state store.old)) (λ text held. RedactSays result text held (S.state store.old) (S.state store.new)
         (λ report. K.taken out.new ≡ taken_with (K.taken out.old) report) (TookPrefixOf (K.taken out.old) (K.taken out.new))) }
+    ensures keeps_tree { command_of (map (λ word. string_bytes word) words.now) ≡ Some Command.Redact → result ≡ Status.Done
+        → IfTextAndHeld (R.rest rules.old) (held (S.state store.old)) (λ text before.
+        IfSome (held (S.state store.new)) (λ now. KeepsTree text before.image now.image)) }
     ensures resume { command_of (map (λ word. string_bytes word) words.now) ≡ Some Command.Resume
         → IfSome (held (S.state store.old)) (λ held. ResumeSays result held (S.state store.old) (S.state store.new)
         (λ report. K.taken out.new ≡ taken_with (K.taken out.old) report) (TookPrefixOf (K.taken out.old) (K.taken out.new))) }

@@ -2,6 +2,7 @@ use Rattle.std.proofs.Common.{◌≡◌, ℕ, List}
 use Rattle.disk_defs.specs.Stream.{taken_with, TookPrefixOf}
 use Rattle.cmd_defs.proofs.PlanAnswerLaw.{is_the_answer}
 use Rattle.cmd_defs.proofs.JournalAnswers.{redact_completes, resume_completes, report_completes}
+use Rattle.redact_cmd.proofs.Kept.{redact_keeps}
 use Rattle.redact_cmd.proofs.commands.run.Goals as goal
 
 pub returns-in-Some-Plan-clause-complete : goal.returns-in-Some-Plan-clause-complete
@@ -31,3 +32,10 @@ returns-in-Some-Report-clause-complete_report g c = λ _.
     let W : List ℕ → Type 0 = λ report. g.K.Sink.taken c.report.new.out ≡ taken_with (g.K.Sink.taken c.args.out.now) report in
     let P : List ℕ → Type 0 = TookPrefixOf (g.K.Sink.taken c.args.out.now) (g.K.Sink.taken c.report.new.out) in
     report_completes _ _ _ _ W P e.says e.device e.sink
+
+pub returns-in-Some-Redact-clause-keeps_tree : goal.returns-in-Some-Redact-clause-keeps_tree
+returns-in-Some-Redact-clause-keeps_tree g c = λ _ done.
+    let e = c.redact.ensures in
+    let W : List ℕ → Type 0 = λ report. g.K.Sink.taken c.redact.new.out ≡ taken_with (g.K.Sink.taken c.args.out.now) report in
+    let P : List ℕ → Type 0 = TookPrefixOf (g.K.Sink.taken c.args.out.now) (g.K.Sink.taken c.redact.new.out) in
+    redact_keeps _ _ (g.S.Store.state c.args.store.now) (g.S.Store.state c.redact.new.store) W P _ e.says done
