@@ -177,6 +177,23 @@ fn an_image_is_redacted_and_its_journal_kept(rt: HostRuntime) -> Result<(), Fail
     Ok(())
 }
 
+#[test]
+fn a_directory_is_no_journal(rt: HostRuntime) -> Result<(), Fail> {
+    let image = place(&rt, "kept")?;
+    let rules = place(&rt, "kept_rules")?;
+    let out = place(&rt, "kept_out")?;
+    let directory = env::temp_dir(&rt)?;
+    fs::write(&rt, &image, &small_image(rt.alloc())?)?;
+    fs::write(&rt, &rules, "FILENAME \"a\" FILL 0x58\n")?;
+    let redact = ["redact", image.as_str(), directory.as_str(), rules.as_str()];
+    assert_eq!(rt; status_of(&rt, &redact, &out)?, Status::DeviceFault);
+    assert!(rt; fs::read(&rt, &image)? == small_image(rt.alloc())?);
+    for path in [&image, &rules, &out] {
+        fs::remove_file(&rt, path)?;
+    }
+    Ok(())
+}
+
 /// The arguments of a program whose second one isn't UTF-8.
 #[derive(Drop)]
 struct Torn;
