@@ -19,9 +19,9 @@ use Rattle.ntfs_record_defs.specs.Stored.{stored_at}
 use Rattle.ntfs_record_defs.proofs.StoredLaws.{kept}
 use Rattle.ntfs_record_defs.specs.Attributes.{Form, Resident, NonResident, Attribute, Opened, is_content, body_of, is_end_mark, is_resident, is_length, is_layout, header_size, attribute_of, look_in, opened, attribute_with, attribute_from, attribute_at, unless_ended, next_attribute, and_behind, attributes_within, attributes_from}
 use Rattle.ntfs_record_defs.proofs.AttributeLaws.{attribute_lies, next_some}
-use Rattle.ntfs_record_defs.specs.Record.{Header, header_of}
+use Rattle.ntfs_record_defs.specs.Record.{Header, header_of, FileRecord, record_of}
 use Rattle.ntfs_record_defs.proofs.RecordLaws.{record_found}
-use Rattle.ntfs_record_defs.specs.Lent.{Lent, lent, lent_form, lent_with, lent_behind, lent_at, lent_next, lent_all, lent_from, body_place, body_bytes, RiseFrom, AreApart, IsMended, mended}
+use Rattle.ntfs_record_defs.specs.Lent.{Lent, lent, lent_form, lent_with, lent_behind, lent_at, lent_next, lent_all, lent_from, body_place, body_bytes, RiseFrom, AreApart, IsMended, IsRecordSize, mended}
 use Rattle.ntfs_record_defs.specs.LentLaws.{MendedLends, lent_of}
 
 behind_check : {X Y : Type 0} (bytes : List ℕ) (test : Bool) (fault : RecordFault) (next : Ask RecordFault X) (change : X → Y) (result : Result Y RecordFault) → with_value change (result_of bytes next) ≡ result
@@ -140,15 +140,24 @@ pub header_mended : (bytes : List ℕ) → 42 ≤ length bytes → header_of (me
 header_mended bytes long =
     sym (header_front (mended bytes)) ∙ ap header_of (front_mended (header_of bytes).array bytes long) ∙ header_front bytes
 
+whole_record : (stored : List ℕ) → IsRecordSize (length stored) → (42 ≤ length stored) × (length stored % 512 ≡ 0)
+whole_record stored size = ⊎_elim (λ small. (omega (arith, small), omega (arith, small))) (λ large. (omega (arith, large), omega (arith, large))) size
+
+-- the true bytes have the attributes that the program found
+pub true_attributes : (stored : List ℕ) (found : FileRecord) → IsRecordSize (length stored) → result_of stored (record_of (length stored)) ≡ Ok found
+    → result_of (mended stored) (attributes_from found.header.used found.header.first) ≡ Ok found.attributes
+true_attributes stored found size gives =
+    let is = record_found stored (length stored) found (whole_record stored size).1 gives in
+    let own : found.header ≡ header_of stored = sym is.header_is ∙ header_front stored in
+    ap (λ (header : Header). result_of (seen stored (stored_at header.array) (length stored)) (attributes_from found.header.used found.header.first)) (sym own)
+    ∙ sym (result_via stored (stored_at found.header.array) (length stored) (attributes_from found.header.used found.header.first))
+    ∙ is.attributes
+
 pub mended_lends : MendedLends
 unfolding lent_from
 mended_lends stored found size gives =
-    let long : (42 ≤ length stored) × (length stored % 512 ≡ 0) = ⊎_elim (λ small. (omega (arith, small), omega (arith, small))) (λ large. (omega (arith, large), omega (arith, large))) size in
-    let is = record_found stored (length stored) found long.1 gives in
-    let header : found.header ≡ header_of (mended stored) = sym is.header_is ∙ header_front stored ∙ sym (header_mended stored long.0) in
-    let own : found.header ≡ header_of stored = sym is.header_is ∙ header_front stored in
-    let true_is = sym (result_via stored (stored_at found.header.array) (length stored) (attributes_from found.header.used found.header.first)) ∙ is.attributes in
+    let is = record_found stored (length stored) found (whole_record stored size).1 gives in
+    let header : found.header ≡ header_of (mended stored) = sym is.header_is ∙ header_front stored ∙ sym (header_mended stored (whole_record stored size).0) in
     ap (lent_all (mended stored))
     (ap (λ (header : Header). result_of (mended stored) (attributes_from header.used header.first)) (sym header)
-    ∙ ap (λ (header : Header). result_of (seen stored (stored_at header.array) (length stored)) (attributes_from found.header.used found.header.first)) (sym own)
-    ∙ true_is)
+    ∙ true_attributes stored found size gives)

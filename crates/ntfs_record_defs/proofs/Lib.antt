@@ -1,4 +1,5 @@
 pub mod AttributeLaws
+pub mod FoundLaws
 pub mod LentLaws
 pub mod RecordLaws
 pub mod Rows

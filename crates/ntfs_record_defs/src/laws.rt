@@ -6,7 +6,7 @@ ghost use Rattle.image_defs.specs.Via.{via};
 ghost use Rattle.image_defs.specs.ViaLaws.{LiesIn};
 ghost use Rattle.ntfs_record_defs.specs.Record.{FileRecord, record_of};
 ghost use Rattle.ntfs_record_defs.specs.Lent.{AreApart, IsMended};
-ghost use Rattle.ntfs_record_defs.specs.LentLaws.{MendedLends};
+ghost use Rattle.ntfs_record_defs.specs.LentLaws.{LendTheSame, MendedLends, MendedLendsFound};
 ghost use Rattle.ntfs_record_defs.specs.RecordLaws.{NoContentPlace, IsKept};
 
 /// No byte at which a record looks is a place of the content of a resident `$DATA` of that same record.
@@ -37,4 +37,17 @@ pub fn a_mended_record_lends_what_is_stored()
 #[tactic(auto, using(crate::proofs::LentLaws::mended_apart))]
 pub fn lent_attributes_are_apart()
     ensures { (bytes : List ℕ) → IsMended bytes → AreApart bytes }
+{}
+
+/// But for the content of its resident `$DATA`, a mended record lends the bytes that the record's program finds.
+#[tactic(auto, using(crate::proofs::FoundLaws::mended_lends_found))]
+pub fn a_mended_record_lends_what_is_found()
+    ensures { MendedLendsFound }
+{}
+
+/// Two records that are stored alike but for the content of the resident `$DATA` of the first lend the same attributes but
+/// for that content.
+#[tactic(auto, using(crate::proofs::FoundLaws::lend_the_same))]
+pub fn records_with_other_content_lend_the_same()
+    ensures { LendTheSame }
 {}
