@@ -272,41 +272,51 @@ stored_goes_on bytes long is = record_checks bytes long ∙ ap (λ first. and_ch
 
 -- ---- the steps of mending
 
--- the bytes behind the first filling
-pub record AreMended (bytes : List ℕ) (array : ℕ) (now : List ℕ) : Type 0 where
-  pub size : IsRecordSize (length bytes)
-  pub stored : stored_check bytes ≡ passed
-  pub array_is : array ≡ (header_of bytes).array
-  pub filled_is : now ≡ filled (array + 2) 2 bytes
+pub long_record : (bytes : List ℕ) → IsRecordSize (length bytes) → 1024 ≤ length bytes
+long_record bytes size = (size_bounds (length bytes) size).0
 
-pub mended_now : (bytes : List ℕ) (array : ℕ) (now : List ℕ) → AreMended bytes array now → now ≡ mended bytes
-mended_now bytes array now are = are.filled_is ∙ ap (λ array. filled (array + 2) 2 bytes) are.array_is ∙ filled_mends bytes
+pub whole_strides : (bytes : List ℕ) → IsRecordSize (length bytes) → length bytes % 512 ≡ 0
+whole_strides bytes size = (size_bounds (length bytes) size).1
 
 -- two bytes stand in front of the first end, for each end
-pub fronts : (bytes : List ℕ) (array : ℕ) → stored_check bytes ≡ passed → array ≡ (header_of bytes).array
-    → ((stride : ℕ) → stride < length bytes / 512 → array + 2 + 2 * stride + 2 ≤ 510) × (array + 2 ≤ 510)
-fronts bytes array stored array_is =
+pub entries_in_front : (bytes : List ℕ) → stored_check bytes ≡ passed → (stride : ℕ) → stride < length bytes / 512 → (header_of bytes).array + 2 + 2 * stride + 2 ≤ 510
+entries_in_front bytes stored stride below =
+    let bounds = array_bounds (length bytes) (header_of bytes).array (stored_passes bytes stored).array in omega (arith, below, bounds.1)
+
+header_now : (bytes now : List ℕ) → IsRecordSize (length bytes) → stored_check bytes ≡ passed → now ≡ mended bytes → header_of now ≡ header_of bytes
+header_now bytes now size stored now_is = ap header_of now_is ∙ header_mended bytes (omega (arith, (size_bounds (length bytes) size).0))
+
+pub size_now : (bytes now : List ℕ) → IsRecordSize (length bytes) → stored_check bytes ≡ passed → now ≡ mended bytes → IsRecordSize (length now)
+size_now bytes now size stored now_is = subst IsRecordSize (sym (length_mended bytes) ∙ ap length (sym now_is)) size
+
+pub array_now : (bytes now : List ℕ) → IsRecordSize (length bytes) → stored_check bytes ≡ passed → now ≡ mended bytes → (header_of now).array + 2 ≤ 510
+array_now bytes now size stored now_is =
     let bounds = array_bounds (length bytes) (header_of bytes).array (stored_passes bytes stored).array in
-    (λ stride below. omega (arith, below, bounds.1, array_is), omega (arith, bounds.1, array_is))
+    let P : Header → Type 0 = λ header. header.array + 2 ≤ 510 in
+    subst P (sym (header_now bytes now size stored now_is)) (omega (arith, bounds.1))
 
-pub sizes_now : (bytes : List ℕ) (array : ℕ) (now : List ℕ) → AreMended bytes array now → ((header_of now).used ≤ length now) × ((header_of now).first ≤ (header_of now).used)
-sizes_now bytes array now are =
-    let sizes = size_bounds (length bytes) are.size in
-    let used = and_parts (nat_le (header_of bytes).used (length bytes)) (nat_le ((header_of bytes).first + 4) (header_of bytes).used) (stored_passes bytes are.stored).used in
-    let header : header_of now ≡ header_of bytes = ap header_of (mended_now bytes array now are) ∙ header_mended bytes (omega (arith, sizes.0)) in
-    let long : length now ≡ length bytes = ap length (mended_now bytes array now are) ∙ length_mended bytes in
+sizes_now : (bytes now : List ℕ) → IsRecordSize (length bytes) → stored_check bytes ≡ passed → now ≡ mended bytes → ((header_of now).used ≤ length now) × ((header_of now).first ≤ (header_of now).used)
+sizes_now bytes now size stored now_is =
+    let used = and_parts (nat_le (header_of bytes).used (length bytes)) (nat_le ((header_of bytes).first + 4) (header_of bytes).used) (stored_passes bytes stored).used in
+    let long : length now ≡ length bytes = ap length now_is ∙ length_mended bytes in
     let P : Header → Type 0 = λ header. (header.used ≤ length now) × (header.first ≤ header.used) in
-    subst P (sym header) (omega (arith, leb-true _ _ used.0, long), omega (arith, leb-true _ _ used.1))
+    subst P (sym (header_now bytes now size stored now_is)) (omega (arith, leb-true _ _ used.0, long), omega (arith, leb-true _ _ used.1))
 
-pub checked_now : (bytes : List ℕ) (array : ℕ) (now : List ℕ) → AreMended bytes array now → record_check bytes ≡ attributes_check now
-checked_now bytes array now are =
-    stored_goes_on bytes (omega (arith, (size_bounds (length bytes) are.size).0)) are.stored ∙ ap attributes_check (sym (mended_now bytes array now are))
+pub used_now : (bytes now : List ℕ) → IsRecordSize (length bytes) → stored_check bytes ≡ passed → now ≡ mended bytes → (header_of now).used ≤ length now
+used_now bytes now size stored now_is = (sizes_now bytes now size stored now_is).0
 
-pub restored_now : (bytes : List ℕ) (array : ℕ) (now : List ℕ) → AreMended bytes array now → filled array 0 now ≡ bytes
-restored_now bytes array now are =
-    ap (λ array. filled array 0 now) are.array_is
-    ∙ ap (filled (header_of bytes).array 0) (mended_now bytes array now are)
-    ∙ restored bytes (size_bounds (length bytes) are.size).1 (stored_passes bytes are.stored)
+pub first_now : (bytes now : List ℕ) → IsRecordSize (length bytes) → stored_check bytes ≡ passed → now ≡ mended bytes → (header_of now).first ≤ (header_of now).used
+first_now bytes now size stored now_is = (sizes_now bytes now size stored now_is).1
+
+pub checked_now : (bytes now : List ℕ) → IsRecordSize (length bytes) → stored_check bytes ≡ passed → now ≡ mended bytes → record_check bytes ≡ attributes_check now
+checked_now bytes now size stored now_is =
+    stored_goes_on bytes (omega (arith, (size_bounds (length bytes) size).0)) stored ∙ ap attributes_check (sym now_is)
+
+pub restored_now : (bytes now : List ℕ) → IsRecordSize (length bytes) → stored_check bytes ≡ passed → now ≡ mended bytes → filled (header_of now).array 0 now ≡ bytes
+restored_now bytes now size stored now_is =
+    ap (λ (header : Header). filled header.array 0 now) (header_now bytes now size stored now_is)
+    ∙ ap (filled (header_of bytes).array 0) now_is
+    ∙ restored bytes (size_bounds (length bytes) size).1 (stored_passes bytes stored)
 
 -- ---- a record that is found
 

@@ -5,7 +5,7 @@ ghost use Rattle.ntfs_record_defs.specs.Lent.{IsRecordSize, mended};
 ghost use Rattle.ntfs_record.specs.Mending.{header_check, sizes_check, stored_check, record_check};
 
 use crate::attrs::check_attributes;
-use crate::ends::{check_ends, fill_ends};
+use crate::ends::{check_ends, put_check_numbers, put_true_ends};
 use crate::walk::part_of;
 use bytes_defs::Order;
 use bytes_defs::field::{u16_at, u32_at};
@@ -69,6 +69,7 @@ fn check_stored(bytes: &[u8]) -> Result<(), RecordFault>
 }
 
 /// Puts the true bytes of a stored record back at the ends of its strides. Where it is no record, the bytes stay.
+#[tactic(auto, using(crate::proofs::Mends::array_now, crate::proofs::Mends::used_now, crate::proofs::Mends::first_now, crate::proofs::Mends::checked_now, crate::proofs::Mends::restored_now, crate::proofs::Mends::size_now))]
 pub fn mend_bytes(bytes: &mut [u8]) -> Result<(), RecordFault>
     requires { IsRecordSize (length bytes.old) }
     ensures checked { result ≡ record_check bytes.old }
@@ -78,12 +79,11 @@ pub fn mend_bytes(bytes: &mut [u8]) -> Result<(), RecordFault>
     if let Err(fault) = check_stored(bytes) {
         return Err(fault);
     }
-    let array = usize::from(u16_at(Order::Little, bytes, 4));
-    fill_ends(bytes, array + 2, 2);
+    put_true_ends(bytes);
     match check_attributes(bytes) {
         Ok(()) => Ok(()),
         Err(fault) => {
-            fill_ends(bytes, array, 0);
+            put_check_numbers(bytes);
             Err(fault)
         }
     }
