@@ -9,3 +9,6 @@ pub mod Joining
 pub mod JoiningSteps
 pub mod Filling
 pub mod Touching
+pub mod LeftFree
+pub mod Sharing
+pub mod InReach

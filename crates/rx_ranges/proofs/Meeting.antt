@@ -6,7 +6,7 @@ use Rattle.range_defs.specs.declared.Range.{Range}
 use Rattle.range_defs.specs.Places.{covers, BeginsBehind, IsRangeList, IsLeast}
 
 -- no byte in front of a canonical list is in it
-covers-before : (ranges : List Range) (byte : ℕ) → IsRangeList ranges → BeginsBehind byte ranges → covers ranges byte ≡ false
+pub covers-before : (ranges : List Range) (byte : ℕ) → IsRangeList ranges → BeginsBehind byte ranges → covers ranges byte ≡ false
 covers-before [] byte kept before = refl
 covers-before (range ∷ []) byte kept before = grind (arith, nat_tests)
 covers-before (range ∷ next ∷ ranges) byte kept before = grind (arith, nat_tests, covers-before (next ∷ ranges) byte kept.2)

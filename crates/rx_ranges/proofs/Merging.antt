@@ -54,11 +54,11 @@ unfolding merged_to
 merged-apart last next ranges apart = grind (arith, nat_tests)
 
 -- what holds with a range in front and without one holds with one that is left out where it is empty
-with-unless : (P : List Range → Type 0) (range : Range) (ranges : List Range) → (0 < range.len → P (range ∷ ranges)) → P ranges → P (unless_empty range ++ ranges)
+pub with-unless : (P : List Range → Type 0) (range : Range) (ranges : List Range) → (0 < range.len → P (range ∷ ranges)) → P ranges → P (unless_empty range ++ ranges)
 with-unless P range ranges some none =
     cond_both (nat_lt 0 range.len) (range ∷ []) [] (λ (list : List Range). P (list ++ ranges)) (λ is. some (ltb-true 0 range.len is)) (λ empty. none)
 
-covers-unless : (range : Range) (ranges : List Range) (byte : ℕ) → covers (unless_empty range ++ ranges) byte ≡ (in_range range byte || covers ranges byte)
+pub covers-unless : (range : Range) (ranges : List Range) (byte : ℕ) → covers (unless_empty range ++ ranges) byte ≡ (in_range range byte || covers ranges byte)
 covers-unless range ranges byte = grind (arith, nat_tests)
 
 -- the range round the first two begins where the first does

@@ -4,6 +4,8 @@ ghost use Rattle.std.specs.List.Sorted.{IsNonDecreasingBy};
 ghost use Rattle.rx_ranges.specs.Hull.{hull, unless_empty};
 ghost use Rattle.range_defs.specs.Places.{covers, IsLeast, IsRangeList, EndsInReach};
 
+mod sets;
+
 use crate::text::NoMemory;
 use range_defs::Range;
 use std::alloc::Global;

@@ -40,6 +40,29 @@ fn sets_join_and_meet(rt: HostRuntime) -> Result<(), Fail> {
 }
 
 #[test]
+fn sets_unite_subtract_and_cut(rt: HostRuntime) -> Result<(), Fail> {
+    let tens = vec![in rt.alloc(); Range { at: 10, len: 10 }, Range { at: 40, len: 10 }]?;
+    let set = RangeList::from_ranges(rt.alloc(), tens)?;
+    let few = vec![in rt.alloc(); Range { at: 14, len: 2 }, Range { at: 20, len: 5 }]?;
+    let other = RangeList::from_ranges(rt.alloc(), few)?;
+    let either = [Range { at: 10, len: 15 }, Range { at: 40, len: 10 }];
+    assert_eq!(rt; set.union(rt.alloc(), &other)?.items(), either.as_slice());
+    let alone = [
+        Range { at: 10, len: 4 },
+        Range { at: 16, len: 4 },
+        Range { at: 40, len: 10 },
+    ];
+    assert_eq!(rt; set.subtract(rt.alloc(), &other)?.items(), alone.as_slice());
+    let endless = Range {
+        at: 19,
+        len: u64::MAX,
+    };
+    let inside = [Range { at: 19, len: 1 }, Range { at: 40, len: 10 }];
+    assert_eq!(rt; set.cut(rt.alloc(), endless)?.items(), inside.as_slice());
+    Ok(())
+}
+
+#[test]
 fn least_rule_wins(rt: HostRuntime) -> Result<(), Fail> {
     let claims = vec![in rt.alloc();
         claim(86016, 3, 3, 0x32),
