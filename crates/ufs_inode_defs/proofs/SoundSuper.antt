@@ -36,10 +36,18 @@ both_hold : (first second : Bool) → (first && second) ≡ true → (first ≡ 
 both_hold true second both = (refl, both)
 both_hold false second both = absurd cc
 
-least_block : (size : ℕ) → not (is_block_size size) ≡ false → 4096 ≤ size
+-- a size that blocks have is a power of two, and within its bounds
+record IsBlockSize (size : ℕ) : Type 0 where
+  pub power : is_power_of_two size ≡ true
+  pub least : 4096 ≤ size
+  pub most : size ≤ 65536
+
+block_of_size : (size : ℕ) → not (is_block_size size) ≡ false → IsBlockSize size
 unfolding is_block_size
-least_block size none =
-    leb-true 4096 size (both_hold (nat_le 4096 size) (nat_le size 65536) (both_hold (is_power_of_two size) (nat_le 4096 size && nat_le size 65536) (it_holds (is_block_size size) none)).1).0
+block_of_size size none =
+    let all = both_hold (is_power_of_two size) (nat_le 4096 size && nat_le size 65536) (it_holds (is_block_size size) none) in
+    let bounds = both_hold (nat_le 4096 size) (nat_le size 65536) all.1 in
+    record { power = all.0; least = leb-true 4096 size bounds.0; most = leb-true size 65536 bounds.1 }
 
 least_fragment : (size : ℕ) → not (is_fragment_size size) ≡ false → 512 ≤ size
 unfolding is_fragment_size
@@ -54,9 +62,11 @@ fragment_counts count fragment block none =
 equal : (a b : ℕ) → not (a == b) ≡ false → a ≡ b
 equal a b none = (Decides-eqb a b).0 (it_holds (a == b) none)
 
--- the least sizes, and as many pointers in a block as it has place for
+-- the sizes within their bounds, and as many pointers in a block as it has place for
 pub record IsSound (sup : Super) : Type 0 where
   pub block : 4096 ≤ block_size sup
+  pub most : block_size sup ≤ 65536
+  pub power : is_power_of_two (block_size sup) ≡ true
   pub fragment : 512 ≤ fragment_size sup
   pub fragments : counted sup.frag * fragment_size sup ≡ block_size sup
   pub pointers : sup.nindir ≡ block_size sup / pointer_len sup.version
@@ -65,8 +75,11 @@ pub is_sound : (sup : Super) → wrong_field sup ≡ None → IsSound sup
 unfolding wrong_field NoneApplies
 is_sound sup none =
     let parts = none_applies (wrong_parts sup) none in
+    let block = block_of_size (block_size sup) parts.0 in
     record {
-      block = least_block (block_size sup) parts.0;
+      block = block.least;
+      most = block.most;
+      power = block.power;
       fragment = least_fragment (fragment_size sup) parts.1.0;
       fragments = fragment_counts (counted sup.frag) (fragment_size sup) (block_size sup) parts.1.1.0;
       pointers = equal sup.nindir (block_size sup / pointer_len sup.version) parts.1.1.1.0;
