@@ -229,6 +229,7 @@ visit_way sup size laid visited way is few =
       covered = way.covered;
       plain = way.plain;
       within = way.within;
+      blocks_lie_within = way.blocks_lie_within;
       slack_within = way.slack_within;
       ended = way.ended;
       kept = way.kept;

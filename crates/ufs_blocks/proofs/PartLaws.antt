@@ -131,11 +131,11 @@ module _ (sup : Super) (inode : Inode) where
   unfolding sections_of kind_as
   sections_are = by_kinds (kind_of inode) ∙ either_way (is_directory inode) (is_file inode) (is_link inode) (is_short_link sup inode) (inode.extsize == 0)
 
-  sections_none : has_content sup inode ≡ false → sections_of sup inode ≡ extended_list inode
+  pub sections_none : has_content sup inode ≡ false → sections_of sup inode ≡ extended_list inode
   unfolding chosen
   sections_none none = sections_are ∙ rw none refl
 
-  sections_some : has_content sup inode ≡ true → sections_of sup inode ≡ content_section sup inode ∷ extended_list inode
+  pub sections_some : has_content sup inode ≡ true → sections_of sup inode ≡ content_section sup inode ∷ extended_list inode
   unfolding chosen
   sections_some some = sections_are ∙ rw some refl
 

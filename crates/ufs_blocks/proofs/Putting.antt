@@ -1,6 +1,7 @@
 -- One more piece behind others.
-use Rattle.std.specs.Prelude.{◌≡◌, ℕ, zero, suc, ◌+◌, ◌-◌, ◌<◌, ◌≤◌, Bool, true, false, not, All, if◌then◌else◌, List, [], ◌∷◌, ◌++◌, length, get_or, set, refl}
-use Rattle.std.proofs.Common.{ap, sym, ◌∙◌, subst, arith}
+use Rattle.std.specs.Prelude.{◌≡◌, ℕ, zero, suc, ◌+◌, ◌-◌, ◌<◌, ◌≤◌, Bool, true, false, not, All, if◌then◌else◌, ◌⊎◌, Option, Some, None, List, [], ◌∷◌, ◌++◌, length, get_or, set, refl}
+use Rattle.std.proofs.Common.{ap, sym, ◌∙◌, subst, arith, inl, inr, ⊎_elim}
+use Rattle.std.proofs.lemmas.Bool.{cases_lt, lt-ltb, le-ltb}
 use Rattle.std.proofs.lemmas.Bool.Decides.{nat_tests, Decides-eqb}
 use Rattle.std.proofs.lemmas.List.{get_or_default}
 use Rattle.std.proofs.lemmas.List.Elements.{All-head, All-tail, All-cons, All-nil}
@@ -9,7 +10,7 @@ use Rattle.rx_ranges.specs.declared.pieces.PieceKind.{PieceKind}
 use Rattle.rx_ranges.specs.declared.pieces.PieceKind.TheVariants.{Disk, Zero}
 use Rattle.piece_defs.specs.Covering.{is_contiguous, covers_from}
 use Rattle.piece_defs.specs.Joined.{grown, joined_onto, AreInARow}
-use Rattle.piece_defs.specs.Places.{IsWithin, AreWithin, IsPlain}
+use Rattle.piece_defs.specs.Places.{IsWithin, AreWithin, IsPlain, of_kind, place_in, place_through}
 use Rattle.piece_defs.specs.Put.{put}
 use Rattle.piece_defs.proofs.Joined.{joined_onto_grows, joined_onto_stands, joined_onto_covers}
 use Rattle.piece_defs.proofs.JoinedLaws.{first_of_all, covered_row}
@@ -111,3 +112,71 @@ put_within size pieces piece all one =
 
 pub put_plain : (pieces : List Piece) (piece : Piece) → All (λ p. IsPlain p.kind p.at) pieces → IsPlain piece.kind piece.at → All (λ p. IsPlain p.kind p.at) (put pieces piece)
 put_plain pieces piece all one = put_all (λ p. IsPlain p.kind p.at) (λ current next first second goes. first) pieces piece all one
+
+-- ---- where they put a byte
+
+through_in : (piece : Piece) (rest : List Piece) (byte : ℕ) → byte < piece.from + piece.len → place_through (piece ∷ rest) byte ≡ place_in piece byte
+through_in piece rest byte inside = rw (lt-ltb byte (piece.from + piece.len) inside) refl
+
+through_behind : (piece : Piece) (rest : List Piece) (byte : ℕ) → piece.from + piece.len ≤ byte → place_through (piece ∷ rest) byte ≡ place_through rest byte
+through_behind piece rest byte past = rw (le-ltb byte (piece.from + piece.len) past) refl
+
+-- the new piece puts a byte at a place
+PutsHere : Piece → ℕ → ℕ → Type 0
+PutsHere piece byte at = (piece.from ≤ byte) × (byte < piece.from + piece.len) × (place_in piece byte ≡ Some at)
+
+puts_alone : (piece : Piece) (byte at : ℕ) → piece.from ≤ byte → place_through (piece ∷ []) byte ≡ Some at → PutsHere piece byte at
+unfolding PutsHere
+puts_alone piece byte at begins is =
+    ⊎_elim
+    (λ inside. (begins, inside, sym (through_in piece [] byte inside) ∙ is))
+    (λ past. absurd (let none : (let nowhere : Option ℕ = None in nowhere ≡ Some at) = sym (through_behind piece [] byte past) ∙ is in cc))
+    (cases_lt byte (piece.from + piece.len))
+
+grown_place : (kind other : PieceKind) (at len from next_from next_at next_len byte place : ℕ)
+    → is_contiguous (record { from = from; len = len; kind = kind; at = at }) (record { from = next_from; len = next_len; kind = other; at = next_at }) ≡ true → from + len ≡ next_from → next_from ≤ byte
+    → of_kind kind (at + (byte - from)) ≡ Some place → of_kind other (next_at + (byte - next_from)) ≡ Some place
+grown_place Disk Disk at len from next_from next_at next_len byte place goes row begins is =
+    let meets : at + len ≡ next_at = (Decides-eqb (at + len) next_at).0 goes in
+    ap Some (let same : next_at + (byte - next_from) ≡ at + (byte - from) = omega (arith, meets, row, begins) in same) ∙ is
+grown_place Disk Zero at len from next_from next_at next_len byte place goes row begins is = absurd cc
+grown_place Zero Disk at len from next_from next_at next_len byte place goes row begins is = absurd cc
+grown_place Zero Zero at len from next_from next_at next_len byte place goes row begins is = is
+
+-- a byte that stands at a place stood there before, or the new piece puts it there
+put_puts : (from : ℕ) (pieces : List Piece) (piece : Piece) (byte at : ℕ) → AreInARow from piece.from pieces → from ≤ byte → place_through (put pieces piece) byte ≡ Some at → (place_through pieces byte ≡ Some at) ⊎ PutsHere piece byte at
+unfolding PutsHere
+put_puts from [] piece byte at row begins is = inr (puts_alone piece byte at (omega (arith, row, begins)) is)
+put_puts from (last ∷ []) piece byte at row begins is = by_test (is_contiguous last piece) refl is
+  where
+    ends : last.from + last.len ≡ piece.from
+    ends = omega (arith, row.0, row.2)
+
+    by_test : (goes : Bool) → is_contiguous last piece ≡ goes → place_through (if goes then grown last piece ∷ [] else (last ∷ piece ∷ [])) byte ≡ Some at → (place_through (last ∷ []) byte ≡ Some at) ⊎ PutsHere piece byte at
+    by_test true goes is =
+        let one = puts_alone (grown last piece) byte at (omega (arith, row.0, begins)) is in
+        ⊎_elim
+        (λ inside. inl (through_in last [] byte inside ∙ one.2))
+        (λ past.
+        inr
+        (omega (arith, ends, past), omega (arith, ends, one.1), grown_place last.kind piece.kind last.at last.len last.from piece.from piece.at piece.len byte at goes ends (omega (arith, ends, past)) one.2))
+        (cases_lt byte (last.from + last.len))
+    by_test false apart is =
+        ⊎_elim
+        (λ inside. inl (through_in last [] byte inside ∙ sym (through_in last (piece ∷ []) byte inside) ∙ is))
+        (λ past. inr (puts_alone piece byte at (omega (arith, ends, past)) (sym (through_behind last (piece ∷ []) byte past) ∙ is)))
+        (cases_lt byte (last.from + last.len))
+put_puts from (first ∷ next ∷ rest) piece byte at row begins is =
+    ⊎_elim
+    (λ inside. inl (through_in first (next ∷ rest) byte inside ∙ sym (through_in first (put (next ∷ rest) piece) byte inside) ∙ is))
+    (λ past.
+    ⊎_elim
+    (λ before. inl (through_behind first (next ∷ rest) byte past ∙ before))
+    (λ here. inr here)
+    (put_puts (from + first.len) (next ∷ rest) piece byte at row.2 (omega (arith, row.0, past)) (sym (through_behind first (put (next ∷ rest) piece) byte past) ∙ is)))
+    (cases_lt byte (first.from + first.len))
+
+pub put_through : (pieces : List Piece) (piece : Piece) (byte at : ℕ) → covers_from 0 piece.from pieces ≡ true → place_through (put pieces piece) byte ≡ Some at
+    → (place_through pieces byte ≡ Some at) ⊎ ((piece.from ≤ byte) × (byte < piece.from + piece.len) × (place_in piece byte ≡ Some at))
+unfolding PutsHere
+put_through pieces piece byte at covered is = put_puts 0 pieces piece byte at (covered_row 0 piece.from pieces covered) (omega arith) is

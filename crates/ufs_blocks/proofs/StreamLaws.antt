@@ -1,11 +1,7 @@
 -- The streams of an inode, at each exit of the reader.
-use Rattle.std.specs.Prelude.{◌≡◌, ℕ, zero, suc, ◌+◌, ◌*◌, ◌<◌, ◌≤◌, min, ℤ, pos, Bool, true, false, ◌||◌, nat_lt, IsErr, IsErrAnd, Option, None, Result, Ok, Err, List, [], ◌∷◌, length, drop, get_or, refl}
-use Rattle.std.specs.Int.{div_ceil}
+use Rattle.std.specs.Prelude.{◌≡◌, ℕ, zero, suc, ◌+◌, ◌*◌, ◌<◌, ◌≤◌, min, ℤ, pos, true, IsErr, IsErrAnd, Option, Some, None, IfSome, Result, Ok, Err, List, [], ◌∷◌, length, drop, get_or, refl}
 use Rattle.std.proofs.Common.{arith, ap, sym, ◌∙◌, subst, inl, inr, ⊎_elim, drop-cons, drop_of_length-le}
-use Rattle.std.proofs.lemmas.Bool.{cases_lt, ltb-false}
-use Rattle.std.proofs.lemmas.Grind.{div_ceil_times}
 use Rattle.std.proofs.lemmas.List.Elements.{All-nil}
-use Rattle.std.proofs.Math.Nat.{mul-le-mul_right, mul_comm}
 use Rattle.range_defs.specs.declared.Range.{Range}
 use Rattle.image_defs.specs.Ask.{Ask, Done, result_of, ◌>>=◌}
 use Rattle.image_defs.specs.Standing.{IsCome}
@@ -17,13 +13,16 @@ use Rattle.piece_defs.specs.Covering.{covers_from}
 use Rattle.rx_store.specs.declared.read_fault.ReadFault.{ReadFault}
 use Rattle.fault_defs.specs.declared.Refusal.{Refusal}
 use Rattle.ufs_inode_defs.specs.Superblock.{wrong_field, block_size}
-use Rattle.ufs_inode_defs.specs.Inode.{reach, sound_inode}
-use Rattle.ufs_inode_defs.specs.Stream.{Pointer, pointers_from, span, block_count}
+use Rattle.ufs_inode_defs.specs.Inode.{sound_inode}
+use Rattle.ufs_inode_defs.specs.Stream.{Pointer, pointers_from, span, block_count, content_stream, extended_stream}
 use Rattle.ufs_inode_defs.specs.Blocks.{Laid, most_runs, none_laid, mapped_blocks, rising_blocks, stream_blocks}
+use Rattle.ufs_inode_defs.specs.BlockPlace.{AreStreamPieces, slack_of}
 use Rattle.ufs_inode_defs.specs.declared.superblock.Super.{Super}
 use Rattle.ufs_inode_defs.specs.declared.inode.Inode.{Inode}
 use Rattle.ufs_inode_defs.proofs.BlockSteps.{blocks_hold}
-use Rattle.ufs_inode_defs.proofs.InodeLaws.{sound_gives}
+use Rattle.ufs_inode_defs.proofs.InodeLaws.{IsSoundInode, sound_gives}
+use Rattle.ufs_inode_defs.proofs.SoundSuper.{is_sound, has_pointers}
+use Rattle.ufs_inode_defs.proofs.StreamLaws.{short_size, reached_blocks, content_is_laid, extended_reached, extended_is_laid}
 use Rattle.ufs_blocks.specs.UnderWay.{IsUnderWay, HasGone, Settles}
 use Rattle.ufs_blocks.proofs.SizeLaws.{block_bounds}
 use Rattle.ufs_blocks.proofs.WayLaws.{settles_as}
@@ -181,6 +180,7 @@ none_way sup size runs few = record {
   covered = let none : min (0 * block_size sup) size ≡ 0 = omega arith in ap (λ end. covers_from 0 end []) none;
   plain = All-nil _;
   within = All-nil _;
+  blocks_lie_within = record { lies = λ index at is. absurd cc };
   slack_within = All-nil _;
   ended = λ ahead. refl;
   kept = tt;
@@ -192,37 +192,15 @@ all_covered sup size laid sound way past =
     let end : min (laid.block * block_size sup) size ≡ size = omega (arith, blocks_hold size (block_size sup) laid.block (omega (arith, some)) past) in
     ap (λ n. covers_from 0 n laid.pieces) (sym end) ∙ way.covered
 
-few_blocks : (size unit count : ℕ) → 0 < unit → size ≤ count * unit → div_ceil size unit ≤ count
-few_blocks size unit count some fits =
-    ⊎_elim
-    (λ more.
-    let next : suc count * unit ≤ div_ceil size unit * unit = mul-le-mul_right unit more in
-    absurd (omega (arith, fits, next, (div_ceil_times size unit some).1)))
-    (λ enough. enough)
-    (cases_lt count (div_ceil size unit))
-
-either_false : (a b : Bool) → (a || b) ≡ false → (a ≡ false) × (b ≡ false)
-either_false true b none = absurd cc
-either_false false b none = (refl, none)
-
 module _ (sup : Super) (inode : Inode) (sound : wrong_field sup ≡ None) (good : sound_inode sup inode ≡ Done tt) where
-  unit_some : 0 < block_size sup
-  unit_some = let some = (block_bounds sup sound).0 in omega (arith, some)
+  passed : IsSoundInode sup inode
+  passed = sound_gives [] sup inode tt (ap (λ ask. result_of [] ask) good)
 
   pub short_content : inode.size ≤ 4611686018427387904
-  short_content = ltb-false 4611686018427387904 inode.size (either_false (nat_lt 4611686018427387904 inode.size) (nat_lt (reach sup) inode.size) (sound_gives [] sup inode tt (ap (λ ask. result_of [] ask) good)).short).0
+  short_content = short_size sup inode passed.short
 
-  reached : block_count sup inode.size ≤ 12 + (span sup 1 + span sup 2 + span sup 3)
-  reached =
-      let n : ℕ = sup.nindir in
-      let blocks : ℕ = 12 + n + n * n + n * (n * n) in
-      let within : inode.size ≤ reach sup = ltb-false (reach sup) inode.size (either_false (nat_lt 4611686018427387904 inode.size) (nat_lt (reach sup) inode.size) (sound_gives [] sup inode tt (ap (λ ask. result_of [] ask) good)).short).1 in
-      let turned : reach sup ≡ blocks * block_size sup = mul_comm (block_size sup) blocks in
-      let one : span sup 1 ≡ n = omega arith in
-      let two : span sup 2 ≡ n * n = ap (λ m. n * m) one in
-      let three : span sup 3 ≡ n * (n * n) = ap (λ m. n * m) two in
-      let few : div_ceil inode.size (block_size sup) ≤ blocks = few_blocks inode.size (block_size sup) blocks unit_some (omega (arith, within, turned)) in
-      omega (arith, few, one, two, three)
+  reached : block_count sup inode.size ≤ 12 + span sup 1 + span sup 2 + span sup 3
+  reached = reached_blocks sup inode passed.short (has_pointers sup (is_sound sup sound)).some_bytes
 
   pub content_covered : (runs count : ℕ) (none direct laid : Laid) → count ≡ 12 → none ≡ none_laid runs → HasGone sup inode.size count none direct → HasGone sup inode.size (span sup 1 + span sup 2 + span sup 3) direct laid → IsUnderWay sup inode.size laid → covers_from 0 inode.size laid.pieces ≡ true
   content_covered runs count none direct laid twelve is_none went rest way =
@@ -240,6 +218,17 @@ module _ (sup : Super) (inode : Inode) (sound : wrong_field sup ≡ None) (good 
       let N : Laid → Type 0 = λ start. HasGone sup long count start laid in
       let gone : HasGone sup inode.extsize count (none_laid runs) laid = subst G is_long (subst N is_none went) in
       let way : IsUnderWay sup inode.extsize laid = let W : ℕ → Type 0 = λ n. IsUnderWay sup n laid in subst W is_long under in
-      let fits : inode.extsize ≤ 2 * block_size sup = ltb-false (2 * block_size sup) inode.extsize (sound_gives [] sup inode tt (ap (λ ask. result_of [] ask) good)).ext_short in
-      let few : block_count sup inode.extsize ≤ 2 = few_blocks inode.extsize (block_size sup) 2 unit_some fits in
+      let few : block_count sup inode.extsize ≤ 2 = extended_reached [] sup inode sound passed in
       all_covered sup inode.extsize laid sound way (⊎_elim (λ on. omega (arith, on, two, few)) (λ past. past) gone)
+
+  -- ---- where the bytes of the streams stand
+
+  pub content_placed : (told : Option (List ℕ)) (runs : ℕ) (before looked : List Range) (laid : Laid) → length inode.direct ≡ 12 → length inode.indirect ≡ 3
+      → (let found : Result Laid ReadFault = Ok laid in ReadsAs told (stream_blocks sup (content_stream sup inode) runs) before looked found)
+      → IfSome told (λ image. AreStreamPieces image sup (content_stream sup inode) laid.pieces) × IfSome told (λ image. laid.slack ≡ slack_of image sup (content_stream sup inode))
+  content_placed None runs before looked laid twelve three read = (tt, tt)
+  content_placed (Some image) runs before looked laid twelve three read = content_is_laid image sup inode sound passed twelve three runs laid read.given
+
+  pub extended_placed : (runs : ℕ) (laid : Laid) → length inode.ext ≡ 2 → stream_blocks sup (extended_stream inode) runs ≡ Done laid
+      → (image : List ℕ) → AreStreamPieces image sup (extended_stream inode) laid.pieces × (laid.slack ≡ slack_of image sup (extended_stream inode))
+  extended_placed runs laid two settled image = extended_is_laid image sup inode sound passed two runs laid (ap (λ ask. result_of image ask) settled)

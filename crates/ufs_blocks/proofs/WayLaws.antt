@@ -1,8 +1,8 @@
 -- What holds of a walk that is under way holds after each of its steps.
 use Rattle.std.specs.Prelude.{◌≡◌, ℕ, zero, suc, ◌+◌, ◌-◌, ◌*◌, ◌<◌, ◌≤◌, min, ℤ, pos, negsuc, Bool, true, false, nat_lt, if◌then◌else◌, Option, Some, None, Result, Ok, Err, [], ◌∷◌, ◌++◌, refl}
 use Rattle.std.specs.Int.{div_ceil}
-use Rattle.std.proofs.Common.{arith, ap, sym, ◌∙◌, subst}
-use Rattle.std.proofs.lemmas.Bool.{le-ltb, ltb-true}
+use Rattle.std.proofs.Common.{arith, ap, sym, ◌∙◌, subst, ⊎_elim}
+use Rattle.std.proofs.lemmas.Bool.{cases_lt, le-ltb, ltb-true}
 use Rattle.std.proofs.lemmas.Grind.{div_ceil_times}
 use Rattle.std.proofs.lemmas.List.Elements.{All-cons, All-nil, All-append}
 use Rattle.std.proofs.Math.Nat.{mul-le-mul_right}
@@ -10,6 +10,10 @@ use Rattle.range_defs.specs.declared.Range.{Range}
 use Rattle.range_defs.specs.Places.{IsRangeList}
 use Rattle.image_defs.specs.Ask.{Ask, Stop, check, ◌>>◌}
 use Rattle.piece_defs.specs.Covering.{covers_from}
+use Rattle.piece_defs.specs.Places.{place_in}
+use Rattle.piece_defs.specs.Put.{put}
+use Rattle.rx_ranges.specs.declared.pieces.Piece.{Piece}
+use Rattle.rx_ranges.specs.declared.pieces.PieceKind.TheVariants.{Disk}
 use Rattle.rx_tree.specs.Within.{AreRangesWithin}
 use Rattle.rx_store.specs.declared.read_fault.ReadFault.{ReadFault}
 use Rattle.fault_defs.specs.declared.Refusal.{Refusal}
@@ -21,13 +25,31 @@ use Rattle.ufs_inode_defs.specs.Blocks.{Laid, behind, runs_of, most_runs, with_h
 use Rattle.ufs_inode_defs.specs.declared.superblock.Super.{Super}
 use Rattle.ufs_inode_defs.proofs.BlockSteps.{block_begins}
 use Rattle.ufs_inode_defs.proofs.SoundSuper.{is_sound, has_pointers}
+use Rattle.ufs_blocks.specs.Placed.{DoBlocksLieWithin}
 use Rattle.ufs_blocks.specs.UnderWay.{IsUnderWay, Settles, led_to}
 use Rattle.ufs_blocks.proofs.SizeLaws.{block_bounds, fragment_bounds}
-use Rattle.ufs_blocks.proofs.Putting.{put_covers, put_within, put_plain}
+use Rattle.ufs_blocks.proofs.Putting.{put_covers, put_within, put_plain, put_through}
+
+only_multiple : (index block unit : ℕ) → block * unit ≤ index * unit → index * unit < (block + 1) * unit → index ≡ block
+only_multiple index block unit from below =
+    ⊎_elim
+    (λ less. absurd (let over : suc index * unit ≤ block * unit = mul-le-mul_right unit less in omega (arith, over, from, below)))
+    (λ least. ⊎_elim (λ more. absurd (let over : suc block * unit ≤ index * unit = mul-le-mul_right unit more in omega (arith, over, below))) (λ most. omega (arith, least, most)) (cases_lt block index))
+    (cases_lt index block)
 
 module _ (sup : Super) (size : ℕ) (laid : Laid) (sound : wrong_field sup ≡ None) (way : IsUnderWay sup size laid) (inside : laid.block < block_count sup size) where
   begins : laid.block * block_size sup < size
   begins = block_begins size (block_size sup) laid.block (let some = (block_bounds sup sound).0 in omega (arith, some)) inside
+
+  -- the blocks that are passed lie in the volume, and so do those of one more piece
+  more_blocks : (piece : Piece) → piece.from ≡ min (laid.block * block_size sup) size
+      → ((index at : ℕ) → (piece.from ≤ index * block_size sup) × (index * block_size sup < piece.from + piece.len) × (place_in piece (index * block_size sup) ≡ Some at) → at + content_len sup size index ≤ sup.at + sup.len)
+      → DoBlocksLieWithin sup size (put laid.pieces piece)
+  more_blocks piece behind new = record {
+    lies = λ index at is.
+        let C : ℕ → Type 0 = λ end. covers_from 0 end laid.pieces ≡ true in
+        ⊎_elim (λ before. way.blocks_lie_within.lies index at before) (λ here. new index at here) (put_through laid.pieces piece (index * block_size sup) at (subst C (sym behind) way.covered) is);
+  }
 
   pub hole_way : (blocks : ℕ) → 0 < blocks → runs_of (with_hole sup size blocks laid) ≤ most_runs → IsUnderWay sup size (with_hole sup size blocks laid)
   hole_way blocks more few =
@@ -42,6 +64,7 @@ module _ (sup : Super) (size : ℕ) (laid : Laid) (sound : wrong_field sup ≡ N
         covered = subst P (omega (arith, from, behind)) (put_covers (min (laid.block * unit) size) laid.pieces _ way.covered (omega (arith, from)) (omega (arith, from, one, some)));
         plain = put_plain laid.pieces _ way.plain refl;
         within = put_within (sup.at + sup.len) laid.pieces _ way.within tt;
+        blocks_lie_within = more_blocks _ (omega (arith, from)) (λ index at here. absurd cc);
         slack_within = way.slack_within;
         ended = λ ahead. way.ended inside;
         kept = way.kept;
@@ -53,6 +76,19 @@ module _ (sup : Super) (size : ℕ) (laid : Laid) (sound : wrong_field sup ≡ N
       by_test : (direct : Bool) → content_len sup size laid.block ≤ (if direct then div_ceil (content_len sup size laid.block) (fragment_size sup) * fragment_size sup else block_size sup)
       by_test true = (div_ceil_times (content_len sup size laid.block) (fragment_size sup) (let some = (fragment_bounds sup sound).0 in omega (arith, some))).0
       by_test false = omega arith
+
+  -- a piece of one block has the begin of no other
+  one_block : (index at place : ℕ) → at + allocated_len sup size laid.block ≤ sup.at + sup.len
+      → (let piece : Piece = record { from = laid.block * block_size sup; len = content_len sup size laid.block; kind = Disk; at = at } in
+      (piece.from ≤ index * block_size sup) × (index * block_size sup < piece.from + piece.len) × (place_in piece (index * block_size sup) ≡ Some place))
+      → place + content_len sup size index ≤ sup.at + sup.len
+  one_block index at place stands here =
+      let on : (laid.block + 1) * block_size sup ≡ laid.block * block_size sup + block_size sup = omega arith in
+      let same : index ≡ laid.block = only_multiple index laid.block (block_size sup) here.0 (omega (arith, here.1, on)) in
+      let first : at + (index * block_size sup - laid.block * block_size sup) ≡ place = cc in
+      let L : ℕ → Type 0 = λ block. place + content_len sup size block ≤ sup.at + sup.len in
+      let none : index * block_size sup ≡ laid.block * block_size sup = ap (λ block. block * block_size sup) same in
+      subst L (sym same) (let fits = content_fits in omega (arith, fits, stands, first, none))
 
   slack_of_block : (end at len allocated : ℕ) → at + allocated ≤ end → AreRangesWithin end (behind at len allocated)
   slack_of_block end at len allocated fits = by_test (nat_lt len allocated) refl
@@ -98,6 +134,7 @@ module _ (sup : Super) (size : ℕ) (laid : Laid) (sound : wrong_field sup ≡ N
         covered = subst P (omega (arith, from, on)) (put_covers (min (laid.block * unit) size) laid.pieces _ way.covered (omega (arith, from)) (omega (arith, from, some)));
         plain = put_plain laid.pieces _ way.plain tt;
         within = put_within (sup.at + sup.len) laid.pieces _ way.within (let fits = content_fits in omega (arith, fits, stands));
+        blocks_lie_within = more_blocks _ (omega (arith, from)) (λ index place here. one_block index at place stands here);
         slack_within = All-append (λ (range : Range). range.at + range.len ≤ sup.at + sup.len) laid.slack _ way.slack_within (slack_of_block (sup.at + sup.len) at (content_len sup size laid.block) (allocated_len sup size laid.block) stands);
         ended = λ ahead. ap (λ slack. slack ++ behind at (content_len sup size laid.block) (allocated_len sup size laid.block)) (way.ended inside) ∙ nothing_behind at (content_len sup size laid.block) (allocated_len sup size laid.block) (whole_block ahead);
         kept = subst IsRangeList (sym (ap (λ slack. slack ++ behind at (content_len sup size laid.block) (allocated_len sup size laid.block)) (way.ended inside))) (one_range at (content_len sup size laid.block) (allocated_len sup size laid.block));

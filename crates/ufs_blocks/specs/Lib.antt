@@ -1,3 +1,4 @@
+pub mod Placed
 pub mod UnderWay
 pub mod Sections
 pub mod Found

@@ -15,14 +15,16 @@ use Rattle.ufs_inode_defs.specs.Superblock.{block_size}
 use Rattle.ufs_inode_defs.specs.Stream.{Pointer, block_count}
 use Rattle.ufs_inode_defs.specs.Blocks.{Laid, runs_of, most_runs, fragment_place, lies_within}
 use Rattle.ufs_inode_defs.specs.declared.superblock.Super.{Super}
+use Rattle.ufs_blocks.specs.Placed.{DoBlocksLieWithin}
 
--- the runs are within their limit; the pieces cover the blocks that were passed; they and the slack lie in the volume, and the
--- slack is one range at most, behind the last block
+-- the runs are within their limit; the pieces cover the blocks that were passed; they, each block and the slack lie in the
+-- volume, and the slack is one range at most, behind the last block
 pub record IsUnderWay (sup : Super) (size : ℕ) (laid : Laid) : Type 0 where
   pub few : runs_of laid ≤ most_runs
   pub covered : covers_from 0 (min (laid.block * block_size sup) size) laid.pieces ≡ true
   pub plain : ArePlain laid.pieces
   pub within : AreWithin (sup.at + sup.len) laid.pieces
+  pub blocks_lie_within : DoBlocksLieWithin sup size laid.pieces
   pub slack_within : AreRangesWithin (sup.at + sup.len) laid.slack
   pub ended : laid.block < block_count sup size → laid.slack ≡ []
   pub kept : IsRangeList laid.slack

@@ -1,13 +1,15 @@
 //! The blocks of an inode.
-ghost use Rattle.std.specs.Prelude.{◌≡◌, ◌+◌, ◌≤◌, None, IfSome};
+ghost use Rattle.std.specs.Prelude.{◌≡◌, ◌+◌, ◌≤◌, None, IfOk, IfSome};
 ghost use Rattle.disk_defs.specs.Disk.{size_of, told_image};
 ghost use Rattle.disk_defs.specs.declared.Area.TheVariants.{Image};
 ghost use Rattle.image_defs.specs.Ask.{Done};
 ghost use Rattle.rx_store.specs.Answers.{Answers};
 ghost use Rattle.rx_store.specs.ReadFaults.{IsReadCounted};
 ghost use Rattle.ufs_blocks.specs.Found.{blocks_found};
+ghost use Rattle.ufs_blocks.specs.Placed.{ArePartsOf};
 ghost use Rattle.ufs_inode_defs.specs.Inode.{sound_inode};
 ghost use Rattle.ufs_inode_defs.specs.Superblock.{wrong_field};
+ghost use Rattle.ufs_volume_defs.specs.Files.{sections_of};
 
 use crate::laid::Parted;
 use crate::parts::inode_parts;
@@ -48,6 +50,7 @@ pub fn blocks_of<S: Store>(
     requires inside { sup.now.at + sup.now.len ≤ size_of Image (S.state store.old) }
     requires stands { inode.now.at ≤ sup.now.at + sup.now.len }
     ensures told { IfSome (told_image (S.state store.old)) (λ image. Answers result (blocks_found image sup.now inode.now)) }
+    ensures placed { IfOk result (λ blocks. IfSome (told_image (S.state store.old)) (λ image. ArePartsOf image sup.now (sections_of sup.now inode.now) blocks.parts)) }
     ensures same { S.state store.new ≡ S.state store.old }
     ensures counted { IsReadCounted Image result (S.faults store.old) (S.faults store.new) }
 {

@@ -1,5 +1,5 @@
 //! The parts of an inode.
-ghost use Rattle.std.specs.Prelude.{◌≡◌, ◌≢◌, ◌+◌, ◌≤◌, ◌++◌, ◌∷◌, [], true, false, None, Err, IfOk, IfErr, OnOk, All};
+ghost use Rattle.std.specs.Prelude.{◌≡◌, ◌≢◌, ◌+◌, ◌≤◌, ◌++◌, ◌∷◌, [], true, false, None, Err, IfOk, IfErr, IfSome, OnOk, All};
 ghost use Rattle.disk_defs.specs.Disk.{size_of, told_image};
 ghost use Rattle.disk_defs.specs.declared.Area.TheVariants.{Image};
 ghost use Rattle.image_defs.specs.Ask.{Done};
@@ -12,12 +12,13 @@ ghost use Rattle.rx_store.specs.ReadFaults.{IsReadCounted};
 ghost use Rattle.rx_tree.specs.PartOrder.{ArePartsSorted};
 ghost use Rattle.rx_tree.specs.PartPieces.{ArePlain};
 ghost use Rattle.rx_tree.specs.Within.{ArePartsWithin, ArePiecesWithin, AreRangesWithin};
+ghost use Rattle.ufs_blocks.specs.Placed.{AreExtendedBy, ArePartsOf};
 ghost use Rattle.ufs_blocks.specs.Sections.{IsContentAlone, extended_list, has_content as has_content_by, has_extended as has_extended_by, has_parts as has_parts_by};
 ghost use Rattle.ufs_blocks.specs.UnderWay.{Settles};
 ghost use Rattle.ufs_inode_defs.specs.Blocks.{most_runs, runs_of};
 ghost use Rattle.ufs_inode_defs.specs.Inode.{is_short_link as is_short_link_by, sound_inode, type_bits as type_bits_by};
 ghost use Rattle.ufs_inode_defs.specs.Superblock.{wrong_field};
-ghost use Rattle.ufs_volume_defs.specs.Files.{inode_parts as inode_parts_by, section_part};
+ghost use Rattle.ufs_volume_defs.specs.Files.{inode_parts as inode_parts_by, section_part, sections_of};
 
 use crate::laid::{Laid, Parted};
 use crate::streams::{content_blocks, extended_blocks};
@@ -139,6 +140,7 @@ fn with_extended(
     requires alone { IsContentAlone parted.parts }
     requires parts_within { ArePartsWithin (sup.now.at + sup.now.len) parted.parts }
     ensures settles { Settles result (through (section_part sup.now) parted (extended_list inode.now)) }
+    ensures extended { IfOk result (λ after. AreExtendedBy sup.now (extended_list inode.now) parted.parts after.parts) }
     ensures few_after { IfOk result (λ after. after.runs ≤ most_runs) }
     ensures sorted { IfOk result (λ after. ArePartsSorted after.parts) }
     ensures within { IfOk result (λ after. ArePartsWithin (sup.now.at + sup.now.len) after.parts) }
@@ -169,6 +171,7 @@ pub fn inode_parts<S: Store>(
     requires near { sup.now.at + sup.now.len ≤ LONGEST_IMAGE }
     requires few { runs ≤ most_runs }
     ensures reads { ReadsAs (told_image (S.state store.old)) (inode_parts_by sup.now runs inode.now) looked.old.items looked.new.items result }
+    ensures placed { IfOk result (λ parted. IfSome (told_image (S.state store.old)) (λ image. ArePartsOf image sup.now (sections_of sup.now inode.now) parted.parts)) }
     ensures few_after { IfOk result (λ parted. parted.runs ≤ most_runs) }
     ensures sorted { IfOk result (λ parted. ArePartsSorted parted.parts) }
     ensures within { IfOk result (λ parted. ArePartsWithin (sup.now.at + sup.now.len) parted.parts) }

@@ -1,5 +1,5 @@
 //! The streams of an inode.
-ghost use Rattle.std.specs.Prelude.{◌≡◌, ◌≢◌, ◌+◌, ◌*◌, ◌^◌, ◌<◌, ◌≤◌, true, None, Err, IfOk, OnOk, get_or, length, pos};
+ghost use Rattle.std.specs.Prelude.{◌≡◌, ◌≢◌, ◌+◌, ◌*◌, ◌^◌, ◌<◌, ◌≤◌, ℕ, true, None, Err, IfOk, IfSome, OnOk, List, get_or, length, pos};
 ghost use Rattle.disk_defs.specs.Disk.{size_of, told_image};
 ghost use Rattle.disk_defs.specs.declared.Area.TheVariants.{Image};
 ghost use Rattle.image_defs.specs.Ask.{Done};
@@ -12,7 +12,9 @@ ghost use Rattle.range_defs.specs.declared.TheConstants.{LONGEST_IMAGE};
 ghost use Rattle.rx_store.specs.ReadFaults.{IsReadCounted};
 ghost use Rattle.rx_tree.specs.PartPieces.{ArePlain};
 ghost use Rattle.rx_tree.specs.Within.{AreRangesWithin};
+ghost use Rattle.ufs_blocks.specs.Placed.{DoBlocksLieWithin};
 ghost use Rattle.ufs_blocks.specs.UnderWay.{HasGone, IsUnderWay, Settles};
+ghost use Rattle.ufs_inode_defs.specs.BlockPlace.{AreStreamPieces, slack_of};
 ghost use Rattle.ufs_inode_defs.specs.Blocks.{mapped_blocks as mapped_blocks_by, most_runs, none_laid as none_laid_by, rising_blocks as rising_blocks_by, runs_of, stream_blocks};
 ghost use Rattle.ufs_inode_defs.specs.Inode.{sound_inode};
 ghost use Rattle.ufs_inode_defs.specs.Layout.{layout_of, pointer_len as pointer_len_by};
@@ -152,8 +154,11 @@ pub fn content_blocks<S: Store>(
     ensures covered { IfOk result (λ laid. covers_from 0 inode.now.size laid.pieces ≡ true) }
     ensures plain { IfOk result (λ laid. ArePlain laid.pieces) }
     ensures within { IfOk result (λ laid. AreWithin (sup.now.at + sup.now.len) laid.pieces) }
+    ensures blocks_lie_within { IfOk result (λ laid. DoBlocksLieWithin sup.now inode.now.size laid.pieces) }
     ensures slack { IfOk result (λ laid. IsRangeList laid.slack) }
     ensures slack_within { IfOk result (λ laid. AreRangesWithin (sup.now.at + sup.now.len) laid.slack) }
+    ensures placed { IfOk result (λ laid. IfSome (told_image (S.state store.old)) (λ image. AreStreamPieces image sup.now (content_stream sup.now inode.now) laid.pieces)) }
+    ensures behind { IfOk result (λ laid. IfSome (told_image (S.state store.old)) (λ image. laid.slack ≡ slack_of image sup.now (content_stream sup.now inode.now))) }
     ensures kept_within { OnOk result (KeptWithin (sup.now.at + sup.now.len) looked.old.items looked.new.items) }
     ensures same { S.state store.new ≡ S.state store.old }
     ensures counted { IsReadCounted Image result (S.faults store.old) (S.faults store.new) }
@@ -195,6 +200,7 @@ pub(crate) fn extended_blocks(
     ensures within { IfOk result (λ laid. AreWithin (sup.now.at + sup.now.len) laid.pieces) }
     ensures slack { IfOk result (λ laid. IsRangeList laid.slack) }
     ensures slack_within { IfOk result (λ laid. AreRangesWithin (sup.now.at + sup.now.len) laid.slack) }
+    ensures placed { IfOk result (λ laid. (image : List ℕ) → AreStreamPieces image sup.now (extended_stream inode.now) laid.pieces × (laid.slack ≡ slack_of image sup.now (extended_stream inode.now))) }
     ensures calm { result ≢ Err ReadFault.Device }
 {
     let none = none_laid(alloc, runs);

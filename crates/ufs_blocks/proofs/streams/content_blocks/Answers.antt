@@ -3,7 +3,7 @@ use Rattle.disk_defs.specs.Disk.{told_image}
 use Rattle.ufs_inode_defs.specs.Layout.{layout_of, pointer_len}
 use Rattle.ufs_inode_defs.specs.Stream.{pointers_from}
 use Rattle.ufs_blocks.proofs.MappedLaws.{settled_reads}
-use Rattle.ufs_blocks.proofs.StreamLaws.{short_content, same_pointers, direct_refused, stream_reads, stream_stops, content_covered}
+use Rattle.ufs_blocks.proofs.StreamLaws.{short_content, same_pointers, direct_refused, stream_reads, stream_stops, content_covered, content_placed}
 use Rattle.ufs_blocks.proofs.streams.content_blocks.Goals as goal
 
 pub direct_blocks-requires-clause-short : goal.direct_blocks-requires-clause-short
@@ -44,3 +44,11 @@ pub returns-clause-covered : goal.returns-clause-covered
 returns-clause-covered g c =
     content_covered c.args.sup.now c.args.inode.now c.requires.sound c.requires.good c.args.runs (length c.args.inode.now.direct) c.none_laid-none.result c.in_ok-direct.direct c.in_ok-laid.laid (omega arith) c.none_laid-none.ensures c.in_ok-direct.ensures.gone
     c.in_ok-laid.ensures.gone c.in_ok-laid.ensures.way_after
+
+pub returns-clause-placed : goal.returns-clause-placed
+returns-clause-placed g c =
+    (content_placed c.args.sup.now c.args.inode.now c.requires.sound c.requires.good (told_image (g.S.Store.state c.args.store.now)) c.args.runs c.args.looked.now.items c.rising_blocks.new.looked.items c.in_ok-laid.laid (omega arith) (omega arith) (returns-clause-reads g c)).0
+
+pub returns-clause-behind : goal.returns-clause-behind
+returns-clause-behind g c =
+    (content_placed c.args.sup.now c.args.inode.now c.requires.sound c.requires.good (told_image (g.S.Store.state c.args.store.now)) c.args.runs c.args.looked.now.items c.rising_blocks.new.looked.items c.in_ok-laid.laid (omega arith) (omega arith) (returns-clause-reads g c)).1

@@ -1,6 +1,6 @@
 use Rattle.std.proofs.Common.{◌+◌, [], length, arith, refl}
 use Rattle.ufs_inode_defs.specs.Stream.{pointers_from}
-use Rattle.ufs_blocks.proofs.StreamLaws.{direct_refused, short_stream, extended_covered}
+use Rattle.ufs_blocks.proofs.StreamLaws.{direct_refused, short_stream, extended_covered, extended_placed}
 use Rattle.ufs_blocks.proofs.streams.extended_blocks.Goals as goal
 
 pub returns-in_err-laid-clause-settles : goal.returns-in_err-laid-clause-settles
@@ -17,3 +17,6 @@ pub returns-clause-covered : goal.returns-clause-covered
 returns-clause-covered c =
     extended_covered c.args.sup.now c.args.inode.now c.requires.sound c.requires.good c.args.runs (length c.args.inode.now.ext) c.from-size.result c.none_laid-none.result c.in_ok-laid.laid (omega arith) c.from-size.ensures c.none_laid-none.ensures
     c.in_ok-laid.ensures.gone c.in_ok-laid.ensures.way_after
+
+pub returns-clause-placed : goal.returns-clause-placed
+returns-clause-placed c = extended_placed c.args.sup.now c.args.inode.now c.requires.sound c.requires.good c.args.runs c.in_ok-laid.laid (omega arith) (returns-clause-settles c)
