@@ -1,5 +1,4 @@
 pub mod ExtentLaws
-pub mod Pushed
 pub mod PieceLaws
 pub mod SlackLaws
 pub mod FoundLaws

@@ -1,10 +1,10 @@
 -- Pieces that are put one behind another are those that are joined to the longest.
-use Rattle.std.specs.Prelude.{◌≡◌, ℕ, ◌+◌, ◌*◌, ◌<◌, ◌≤◌, Bool, true, false, nat_lt, if◌then◌else◌, List, [], ◌∷◌, ◌++◌, length, drop, get_or, refl}
+use Rattle.std.specs.Prelude.{◌≡◌, ℕ, ◌+◌, ◌*◌, ◌^◌, ◌<◌, ◌≤◌, Bool, true, false, nat_lt, if◌then◌else◌, List, [], ◌∷◌, ◌++◌, length, drop, get_or, refl}
 use Rattle.std.specs.List.{All}
 use Rattle.std.proofs.Common.{ap, sym, ◌∙◌, subst, arith, append_assoc, append-nil}
 use Rattle.std.proofs.lemmas.Bool.Decides.{Decides-eqb}
 use Rattle.std.proofs.lemmas.List.{at_drop_more}
-use Rattle.std.proofs.lemmas.List.Elements.{All-nil, All-cons, All-head, All-tail, All-push}
+use Rattle.std.proofs.lemmas.List.Elements.{All-push}
 use Rattle.range_defs.specs.declared.Range.{Range}
 use Rattle.rx_ranges.specs.declared.pieces.Piece.{Piece}
 use Rattle.rx_ranges.specs.declared.pieces.PieceKind.{PieceKind}
@@ -14,6 +14,8 @@ use Rattle.piece_defs.specs.Joined.{grown, joined_onto, joined_pieces}
 use Rattle.piece_defs.specs.Places.{IsWithin, AreWithin}
 use Rattle.piece_defs.specs.Put.{put}
 use Rattle.piece_defs.proofs.Joined.{joined_onto_grows, joined_onto_stands}
+use Rattle.piece_reads.proofs.Putting.{put_within}
+use Rattle.range_defs.specs.declared.TheConstants.{LONGEST_IMAGE}
 use Rattle.hfs_defs.specs.Forks.{blocks_in, extent_bytes, extent_piece, extent_rest, piece_in_front, range_in_front, pieces_from, rests_from}
 use Rattle.hfs_defs.specs.declared.forks.Extent.{Extent}
 use Rattle.hfs_defs.specs.declared.header.Header.{Header}
@@ -97,32 +99,19 @@ passed-more header extents i d from all bytes inside long so_far =
 
 -- ---- pieces with one more lie in the volume
 
-grown_within : (end : ℕ) (kind other : PieceKind) (from len at next_from next_len next_at : ℕ) → other ≡ Disk → next_at + next_len ≤ end
-    → is_contiguous (record { from = from; len = len; kind = kind; at = at }) (record { from = next_from; len = next_len; kind = other; at = next_at }) ≡ true → IsWithin end kind at (len + next_len)
-grown_within end Disk Disk from len at next_from next_len next_at disk fits goes =
-    let meets : at + len ≡ next_at = (Decides-eqb (at + len) next_at).0 goes in
-    omega (arith, meets, fits)
-grown_within end Zero Disk from len at next_from next_len next_at disk fits goes = absurd cc
-grown_within end kind Zero from len at next_from next_len next_at disk fits goes = absurd cc
+grown_fits : (kind other : PieceKind) (from len at next_from next_len next_at : ℕ) → IsWithin LONGEST_IMAGE kind at len → other ≡ Disk → next_at + next_len ≤ LONGEST_IMAGE
+    → is_contiguous (record { from = from; len = len; kind = kind; at = at }) (record { from = next_from; len = next_len; kind = other; at = next_at }) ≡ true → len + next_len < 2 ^ 64
+grown_fits Disk Disk from len at next_from next_len next_at within disk fits goes = let meets : at + len ≡ next_at = (Decides-eqb (at + len) next_at).0 goes in omega (arith, meets, fits)
+grown_fits Zero Disk from len at next_from next_len next_at within disk fits goes = absurd cc
+grown_fits kind Zero from len at next_from next_len next_at within disk fits goes = absurd cc
 
-abbrev pub IsIn : ℕ → Piece → Type 0
-IsIn end piece = IsWithin end piece.kind piece.at piece.len
-
-joined_within : (end : ℕ) (last piece : Piece) → IsIn end last → IsIn end piece → piece.kind ≡ Disk → piece.at + piece.len ≤ end → All (IsIn end) (joined_onto last (piece ∷ []))
-joined_within end last piece first second disk fits = either (is_contiguous last piece) refl
-  where
-    either : (goes : Bool) → is_contiguous last piece ≡ goes → All (IsIn end) (if goes then grown last piece ∷ [] else (last ∷ piece ∷ []))
-    either true goes = All-cons (IsIn end) (grown last piece) [] (grown_within end last.kind piece.kind last.from last.len last.at piece.from piece.len piece.at disk fits goes) (All-nil (IsIn end))
-    either false apart = All-cons (IsIn end) last (piece ∷ []) first (All-cons (IsIn end) piece [] second (All-nil (IsIn end)))
-
-put-within : (end : ℕ) (pieces : List Piece) (piece : Piece) → All (IsIn end) pieces → IsIn end piece → piece.kind ≡ Disk → piece.at + piece.len ≤ end → All (IsIn end) (put pieces piece)
-put-within end [] piece within one disk fits = All-cons (IsIn end) piece [] one (All-nil (IsIn end))
-put-within end (last ∷ []) piece within one disk fits = joined_within end last piece (All-head (IsIn end) last [] within) one disk fits
-put-within end (first ∷ next ∷ rest) piece within one disk fits =
-    All-cons (IsIn end) first (put (next ∷ rest) piece) (All-head (IsIn end) first (next ∷ rest) within) (put-within end (next ∷ rest) piece (All-tail (IsIn end) first (next ∷ rest) within) one disk fits)
+-- a piece of the disk makes none too long
+pub disk_fits : (pieces : List Piece) (piece : Piece) → AreWithin LONGEST_IMAGE pieces → piece.kind ≡ Disk → piece.at + piece.len ≤ LONGEST_IMAGE → All (λ last. is_contiguous last piece ≡ true → last.len + piece.len < 2 ^ 64) pieces
+disk_fits pieces piece within disk fits = λ k d inside goes.
+    let last : Piece = get_or pieces k d in grown_fits last.kind piece.kind last.from last.len last.at piece.from piece.len piece.at (within k d inside) disk fits goes
 
 pub put_some-within : (end : ℕ) (pieces : List Piece) (piece : Piece) → AreWithin end pieces → piece.kind ≡ Disk → piece.at + piece.len ≤ end → AreWithin end (put_some pieces piece)
-put_some-within end pieces piece within disk fits = either (nat_lt 0 piece.len) (put-within end pieces piece within (is_in piece.kind disk) disk fits)
+put_some-within end pieces piece within disk fits = either (nat_lt 0 piece.len) (put_within end pieces piece within (is_in piece.kind disk))
   where
     is_in : (kind : PieceKind) → kind ≡ Disk → IsWithin end kind piece.at piece.len
     is_in Disk same = fits

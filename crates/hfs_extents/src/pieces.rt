@@ -2,44 +2,27 @@
 ghost use Rattle.std.specs.Prelude.{◌≡◌, ◌+◌, ◌*◌, ◌^◌, ◌<◌, ◌≤◌, ◌++◌, [], All, IfOk};
 ghost use Rattle.hfs_defs.specs.Forks.{blocks_in, extent_bytes as extent_bytes_by, extent_piece as extent_piece_by, extent_rest as extent_rest_by, pieces_of as pieces_of_by, slack_of as slack_of_by, rests_from, range_in_front};
 ghost use Rattle.hfs_extents.specs.Extents.{EndsIn, EndsBy, LiesInImage, put_some};
-ghost use Rattle.piece_defs.specs.Covering.{is_contiguous as is_contiguous_by};
-ghost use Rattle.piece_defs.specs.Places.{AreWithin, IsWithin};
+ghost use Rattle.piece_defs.specs.Places.{AreWithin};
 ghost use Rattle.range_defs.specs.declared.TheConstants.{LONGEST_IMAGE};
 
 use hfs_defs::forks::Extent;
 use hfs_defs::header::Header;
+use piece_reads::put;
 use range_defs::Range;
 use rx_ranges::{Piece, PieceKind, Pieces, RangeList};
 use std::alloc::{AllocError, Global};
 
-/// Whether a piece goes on where another ends.
-fn is_contiguous(piece: &Piece, next: &Piece) -> bool
-    requires { IsWithin LONGEST_IMAGE piece.now.kind piece.now.at piece.now.len }
-    ensures { result ≡ is_contiguous_by piece.now next.now }
-{
-    match (piece.kind, next.kind) {
-        (PieceKind::Disk, PieceKind::Disk) => piece.at + piece.len == next.at,
-        (PieceKind::Zero, PieceKind::Zero) => true,
-        _ => false,
-    }
-}
-
 /// Puts a piece of the disk behind others, unless it is empty: the last one grows where the new one goes on.
+#[tactic(auto, using(crate::proofs::PieceLaws::disk_fits))]
 fn push_piece(pieces: &mut Vec<Piece>, piece: Piece) -> Result<(), AllocError>
     requires within { AreWithin LONGEST_IMAGE pieces.old.items }
     requires disk { piece.kind ≡ PieceKind.Disk }
     requires piece_within { piece.at + piece.len ≤ LONGEST_IMAGE }
     ensures { IfOk result (λ _. pieces.new.items ≡ put_some pieces.old.items piece) }
 {
-    if piece.len == 0 {
-        return Ok(());
+    if piece.len > 0 {
+        put(pieces, piece)?;
     }
-    let count = pieces.len();
-    if count > 0 && is_contiguous(&pieces[count - 1], &piece) {
-        pieces[count - 1].len += piece.len;
-        return Ok(());
-    }
-    pieces.push(piece)?;
     Ok(())
 }
 

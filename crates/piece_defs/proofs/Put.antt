@@ -11,7 +11,7 @@ use Rattle.piece_defs.proofs.JoinedLaws.{joined_law, first_of_all, covered_row}
 use Rattle.piece_defs.specs.Put.{PutLaw, put}
 
 -- pieces that are as long as possible are so joined with one more
-put_joined : (from end : ℕ) (first : Piece) (rest : List Piece) (piece : Piece) → covers_from from end (first ∷ rest) ≡ true → put (first ∷ rest) piece ≡ joined_onto first (rest ++ piece ∷ [])
+pub put_joined : (from end : ℕ) (first : Piece) (rest : List Piece) (piece : Piece) → covers_from from end (first ∷ rest) ≡ true → put (first ∷ rest) piece ≡ joined_onto first (rest ++ piece ∷ [])
 put_joined from end first [] piece covered = refl
 put_joined from end first (next ∷ rest) piece covered =
     let facts = first_of_all from end first (next ∷ rest) covered in
@@ -22,7 +22,7 @@ put_joined from end first (next ∷ rest) piece covered =
     not_true true is = absurd cc
     not_true false is = refl
 
-row_push : (from end : ℕ) (pieces : List Piece) (piece : Piece) → AreInARow from end pieces → piece.from ≡ end → 0 < piece.len → AreInARow from (end + piece.len) (pieces ++ piece ∷ [])
+pub row_push : (from end : ℕ) (pieces : List Piece) (piece : Piece) → AreInARow from end pieces → piece.from ≡ end → 0 < piece.len → AreInARow from (end + piece.len) (pieces ++ piece ∷ [])
 row_push from end [] piece row begins some = (omega (arith, row, begins), some, omega (arith, row))
 row_push from end (first ∷ rest) piece row begins some = (row.0, row.1, row_push (from + first.len) end rest piece row.2 begins some)
 

@@ -1,9 +1,10 @@
-//! Reads through the pieces of a file.
+//! Reads through the pieces of a file, and makes them.
 //!
 //! `read_pieces` reads a range of a content: its bytes on the disk from the image, and those of a hole as zeros, in one read for each
-//! piece that the range meets.
+//! piece that the range meets. `put` adds a piece behind others, so that each is as long as possible.
 //!
-//!     read_pieces(&mut store, pieces.items(), size, from, &mut buffer)?;
+//!     put(&mut pieces, piece)?;
+//!     read_pieces(&mut store, &pieces, size, from, &mut buffer)?;
 #![tactic(auto)]
 
 ghost use Rattle.std.specs.Prelude.{◌≡◌, ◌+◌, ◌≤◌, length, OnOk, IfSome};
@@ -14,6 +15,9 @@ ghost use Rattle.bytes_defs.specs.Bytes.{part};
 ghost use Rattle.piece_defs.specs.Joined.{AreInARow};
 ghost use Rattle.piece_defs.specs.Places.{bytes_of_kind, bytes_through, IsWithin, AreWithin};
 
+mod longest;
+
+pub use longest::put;
 use rx_ranges::{Piece, PieceKind};
 use rx_store::{Area, Fault, Store};
 

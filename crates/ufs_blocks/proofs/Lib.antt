@@ -1,5 +1,3 @@
-pub mod Putting
-pub mod SizeLaws
 pub mod WayLaws
 pub mod DirectLaws
 pub mod MappedLaws

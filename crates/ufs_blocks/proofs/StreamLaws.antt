@@ -24,7 +24,7 @@ use Rattle.ufs_inode_defs.proofs.InodeLaws.{IsSoundInode, sound_gives}
 use Rattle.ufs_inode_defs.proofs.SoundSuper.{is_sound, has_pointers}
 use Rattle.ufs_inode_defs.proofs.StreamLaws.{short_size, reached_blocks, content_is_laid, extended_reached, extended_is_laid}
 use Rattle.ufs_blocks.specs.UnderWay.{IsUnderWay, HasGone, Settles}
-use Rattle.ufs_blocks.proofs.SizeLaws.{block_bounds}
+use Rattle.ufs_super.proofs.SizeLaws.{block_bounds}
 use Rattle.ufs_blocks.proofs.WayLaws.{settles_as}
 use Rattle.ufs_blocks.proofs.DirectLaws.{fault_settles}
 use Rattle.ufs_blocks.proofs.MappedLaws.{settles_first}

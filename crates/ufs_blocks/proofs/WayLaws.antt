@@ -1,5 +1,5 @@
 -- What holds of a walk that is under way holds after each of its steps.
-use Rattle.std.specs.Prelude.{◌≡◌, ℕ, zero, suc, ◌+◌, ◌-◌, ◌*◌, ◌<◌, ◌≤◌, min, ℤ, pos, negsuc, Bool, true, false, nat_lt, if◌then◌else◌, Option, Some, None, Result, Ok, Err, [], ◌∷◌, ◌++◌, refl}
+use Rattle.std.specs.Prelude.{◌≡◌, ℕ, zero, suc, ◌+◌, ◌-◌, ◌*◌, ◌<◌, ◌≤◌, min, ℤ, pos, negsuc, Bool, true, false, nat_lt, if◌then◌else◌, Option, Some, None, Result, Ok, Err, List, [], ◌∷◌, ◌++◌, refl}
 use Rattle.std.specs.Int.{div_ceil}
 use Rattle.std.proofs.Common.{arith, ap, sym, ◌∙◌, subst, ⊎_elim}
 use Rattle.std.proofs.lemmas.Bool.{cases_lt, le-ltb, ltb-true}
@@ -27,8 +27,8 @@ use Rattle.ufs_inode_defs.proofs.BlockSteps.{block_begins}
 use Rattle.ufs_inode_defs.proofs.SoundSuper.{is_sound, has_pointers}
 use Rattle.ufs_blocks.specs.Placed.{DoBlocksLieWithin}
 use Rattle.ufs_blocks.specs.UnderWay.{IsUnderWay, Settles, led_to}
-use Rattle.ufs_blocks.proofs.SizeLaws.{block_bounds, fragment_bounds}
-use Rattle.ufs_blocks.proofs.Putting.{put_covers, put_within, put_plain, put_through}
+use Rattle.ufs_super.proofs.SizeLaws.{block_bounds, fragment_bounds}
+use Rattle.piece_reads.proofs.Putting.{put_covers, put_within, put_plain, put_through}
 
 only_multiple : (index block unit : ℕ) → block * unit ≤ index * unit → index * unit < (block + 1) * unit → index ≡ block
 only_multiple index block unit from below =
@@ -38,8 +38,11 @@ only_multiple index block unit from below =
     (cases_lt index block)
 
 module _ (sup : Super) (size : ℕ) (laid : Laid) (sound : wrong_field sup ≡ None) (way : IsUnderWay sup size laid) (inside : laid.block < block_count sup size) where
-  begins : laid.block * block_size sup < size
+  pub begins : laid.block * block_size sup < size
   begins = block_begins size (block_size sup) laid.block (let some = (block_bounds sup sound).0 in omega (arith, some)) inside
+
+  pub so_far : (from : ℕ) (pieces : List Piece) → from ≡ laid.block * block_size sup → pieces ≡ laid.pieces → covers_from 0 from pieces ≡ true
+  so_far from pieces at same = ap (λ list. covers_from 0 from list) same ∙ ap (λ end. covers_from 0 end laid.pieces) (omega (arith, at, begins)) ∙ way.covered
 
   -- the blocks that are passed lie in the volume, and so do those of one more piece
   more_blocks : (piece : Piece) → piece.from ≡ min (laid.block * block_size sup) size

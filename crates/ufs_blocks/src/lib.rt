@@ -14,7 +14,6 @@
 mod blocks;
 mod laid;
 mod parts;
-mod sizes;
 mod step;
 mod streams;
 mod walk;

@@ -1,8 +1,5 @@
 //! One step of a walk over the pointers of a stream.
 ghost use Rattle.std.specs.Prelude.{◌≡◌, ◌+◌, ◌*◌, ◌^◌, ◌<◌, ◌≤◌, ◌++◌, true, None, IfErr, IfOk, IfSome};
-ghost use Rattle.piece_defs.specs.Covering.{covers_from, is_contiguous as is_contiguous_by};
-ghost use Rattle.piece_defs.specs.Places.{AreWithin, IsWithin};
-ghost use Rattle.piece_defs.specs.Put.{put as put_by};
 ghost use Rattle.range_defs.specs.declared.TheConstants.{LONGEST_IMAGE};
 ghost use Rattle.rx_store.specs.Answers.{Answers};
 ghost use Rattle.ufs_blocks.specs.UnderWay.{IsUnderWay, HasGone, Settles, led_to};
@@ -11,43 +8,16 @@ ghost use Rattle.ufs_inode_defs.specs.Stream.{allocated_len as allocated_len_by,
 ghost use Rattle.ufs_inode_defs.specs.Superblock.{wrong_field};
 
 use crate::laid::{Laid, Pointer};
-use crate::sizes::{allocated_len, block_count, block_size, content_len, fragment_size};
+use piece_reads::put;
 use range_defs::Range;
 use rx_ranges::{Piece, PieceKind};
 use rx_store::{Bound, ReadFault, Sort};
 use std::alloc::AllocError;
 use ufs_inode_defs::superblock::Super;
+use ufs_super::sizes::{allocated_len, block_count, block_size, content_len, fragment_size};
 
 /// The most runs of a volume.
 pub(crate) const MOST_RUNS: u64 = 4_000_000;
-
-/// Whether a piece goes on where another ends.
-fn is_contiguous(piece: &Piece, next: &Piece) -> bool
-    requires { IsWithin LONGEST_IMAGE piece.now.kind piece.now.at piece.now.len }
-    ensures { result ≡ is_contiguous_by piece.now next.now }
-{
-    match (piece.kind, next.kind) {
-        (PieceKind::Disk, PieceKind::Disk) => piece.at + piece.len == next.at,
-        (PieceKind::Zero, PieceKind::Zero) => true,
-        _ => false,
-    }
-}
-
-/// Puts a piece behind others: the last one grows where the new one goes on.
-fn put(pieces: &mut Vec<Piece>, piece: Piece) -> Result<(), AllocError>
-    requires within { AreWithin LONGEST_IMAGE pieces.old.items }
-    requires covered { covers_from 0 piece.from pieces.old.items ≡ true }
-    requires fits { piece.from + piece.len < 2 ^ 64 }
-    ensures { IfOk result (λ _. pieces.new.items ≡ put_by pieces.old.items piece) }
-{
-    let count = pieces.len();
-    if count > 0 && is_contiguous(&pieces[count - 1], &piece) {
-        pieces[count - 1].len += piece.len;
-        return Ok(());
-    }
-    pieces.push(piece)?;
-    Ok(())
-}
 
 /// A hole of some blocks.
 pub(crate) fn with_hole(
@@ -93,6 +63,7 @@ fn push_behind(slack: &mut Vec<Range>, at: u64, len: u64, allocated: u64) -> Res
 }
 
 /// A block that stands at a place.
+#[tactic(auto, using(piece_reads::proofs::Putting::covered_fits))]
 pub(crate) fn with_block(sup: &Super, size: u64, at: u64, mut laid: Laid) -> Result<Laid, ReadFault>
     requires sound { wrong_field sup.now ≡ None }
     requires near { sup.now.at + sup.now.len ≤ LONGEST_IMAGE }

@@ -22,13 +22,13 @@ ghost use Rattle.ufs_inode_defs.specs.Stream.{content_stream, extended_stream, p
 ghost use Rattle.ufs_inode_defs.specs.Superblock.{wrong_field};
 
 use crate::laid::{Laid, Pointer};
-use crate::sizes::pointer_len;
 use crate::walk::{direct_block, mapped_blocks};
 use range_defs::Range;
 use rx_store::{ReadFault, Store};
 use std::alloc::Global;
 use ufs_inode_defs::inode::Inode;
 use ufs_inode_defs::superblock::Super;
+use ufs_super::sizes::pointer_len;
 
 /// Nothing yet, where so many runs were counted before.
 fn none_laid(alloc: Global, before: u64) -> Laid

@@ -1,6 +1,5 @@
 -- The ranges at which one looks for the superblock of a volume.
-use Rattle.std.specs.Prelude.{ℕ, ◌+◌, ◌≤◌, ◌==◌, if◌then◌else◌, List, [], ◌∷◌, ◌++◌}
-use Rattle.std.specs.List.{All}
+use Rattle.std.specs.Prelude.{ℕ, ◌+◌, ◌==◌, if◌then◌else◌, List, [], ◌∷◌, ◌++◌}
 use Rattle.range_defs.specs.declared.Range.{Range}
 
 -- where the magics of other kinds of volumes and the one of UFS1 stand
@@ -22,7 +21,3 @@ version_looks at version =
 -- all of them, where the volume at a place has a version
 abbrev pub super_looks : ℕ → ℕ → List Range
 super_looks at version = probes at ++ version_looks at version
-
--- ranges that were kept behind others end where those end, or at a place
-abbrev pub StayWithin : ℕ → List Range → List Range → Type 0
-StayWithin last before looked = (end : ℕ) → last ≤ end → All (λ range. range.at + range.len ≤ end) before → All (λ range. range.at + range.len ≤ end) looked

@@ -12,6 +12,7 @@
 
 mod fields;
 mod read;
+pub mod sizes;
 
 pub use fields::{block_size, fragment_size, inode_len, non_negative, pointer_len};
 pub use read::{look_for_super, read_bytes, read_super};

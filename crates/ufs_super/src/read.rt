@@ -6,12 +6,12 @@ ghost use Rattle.disk_defs.specs.Count.{IsCountedIn};
 ghost use Rattle.disk_defs.specs.Disk.{size_of, told_image};
 ghost use Rattle.disk_defs.specs.declared.Area.TheVariants.{Image};
 ghost use Rattle.image_defs.specs.Ask.{result_of};
-ghost use Rattle.image_reads.specs.Steps.{ReadsAs};
+ghost use Rattle.image_reads.specs.Steps.{KeptWithin, ReadsAs};
 ghost use Rattle.rx_store.specs.Answers.{Answers};
 ghost use Rattle.rx_store.specs.ReadFaults.{IsReadCounted};
 ghost use Rattle.ufs_inode_defs.specs.Layout.{layout_of};
 ghost use Rattle.ufs_inode_defs.specs.Superblock.{wrong_field as wrong_field_by, super_place, checked_super, super_in, volume_super};
-ghost use Rattle.ufs_super.specs.Looks.{super_looks, StayWithin};
+ghost use Rattle.ufs_super.specs.Looks.{super_looks};
 ghost use Rattle.ufs_super.specs.Magic.{has_magic as has_magic_by};
 
 use crate::fields::{super_from, wrong_field};
@@ -162,7 +162,7 @@ pub fn look_for_super<S: Store>(
     ensures begins { IfOk result (λ sup. sup.at ≡ at) }
     ensures long { IfOk result (λ sup. sup.len ≡ len) }
     ensures whole { IfOk result (λ sup. (layout_of sup.version).superblock_at + 1376 ≤ len) }
-    ensures within { OnOk result (StayWithin (at + len) looked.old.items looked.new.items) }
+    ensures within { OnOk result (KeptWithin (at + len) looked.old.items looked.new.items) }
     ensures same { S.state store.new ≡ S.state store.old }
     ensures counted { IsReadCounted Image result (S.faults store.old) (S.faults store.new) }
 {

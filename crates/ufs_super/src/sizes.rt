@@ -1,44 +1,45 @@
-//! The sizes of blocks, and the blocks of a stream.
+//! The sizes of blocks of a volume whose superblock has no wrong field, and the blocks of a stream.
 ghost use Rattle.std.specs.Prelude.{◌≡◌, ◌+◌, ◌<◌, ◌≤◌, None};
 ghost use Rattle.ufs_inode_defs.specs.Layout.{pointer_len as pointer_len_by};
 ghost use Rattle.ufs_inode_defs.specs.Stream.{allocated_len as allocated_len_by, block_count as block_count_by, content_len as content_len_by, span as span_by};
 ghost use Rattle.ufs_inode_defs.specs.Superblock.{block_size as block_size_by, fragment_size as fragment_size_by, wrong_field};
 
+use crate::fields;
 use ufs_inode_defs::superblock::Super;
 
 /// The bytes of a block.
 #[tactic(auto, using(crate::proofs::SizeLaws::block_bounds))]
-pub(crate) fn block_size(sup: &Super) -> u64
+pub fn block_size(sup: &Super) -> u64
     requires { wrong_field sup.now ≡ None }
     ensures value { result ≡ block_size_by sup.now }
     ensures some { 4096 ≤ result }
     ensures most { result ≤ 65536 }
 {
-    u64::from(ufs_super::block_size(sup))
+    u64::from(fields::block_size(sup))
 }
 
 /// The bytes of a fragment.
 #[tactic(auto, using(crate::proofs::SizeLaws::fragment_bounds))]
-pub(crate) fn fragment_size(sup: &Super) -> u64
+pub fn fragment_size(sup: &Super) -> u64
     requires { wrong_field sup.now ≡ None }
     ensures value { result ≡ fragment_size_by sup.now }
     ensures some { 512 ≤ result }
     ensures most { result ≤ 65536 }
 {
-    u64::from(ufs_super::fragment_size(sup))
+    u64::from(fields::fragment_size(sup))
 }
 
 /// The bytes of a pointer.
-pub(crate) fn pointer_len(sup: &Super) -> u64
+pub fn pointer_len(sup: &Super) -> u64
     ensures value { result ≡ pointer_len_by sup.now.version }
     ensures most { result ≤ 8 }
 {
-    u64::from(ufs_super::pointer_len(sup.version))
+    u64::from(fields::pointer_len(sup.version))
 }
 
 /// The blocks that a pointer maps through so many levels of blocks of pointers.
 #[tactic(auto, using(crate::proofs::SizeLaws::span_bounds))]
-pub(crate) fn span(sup: &Super, level: u32) -> u64
+pub fn span(sup: &Super, level: u32) -> u64
     requires sound { wrong_field sup.now ≡ None }
     requires few { level ≤ 3 }
     ensures value { result ≡ span_by sup.now level }
@@ -54,7 +55,7 @@ pub(crate) fn span(sup: &Super, level: u32) -> u64
 }
 
 /// The blocks that so many bytes take up.
-pub(crate) fn block_count(sup: &Super, size: u64) -> u64
+pub fn block_count(sup: &Super, size: u64) -> u64
     requires { wrong_field sup.now ≡ None }
     ensures { result ≡ block_count_by sup.now size }
 {
@@ -62,7 +63,7 @@ pub(crate) fn block_count(sup: &Super, size: u64) -> u64
 }
 
 /// The bytes of a stream of `size` bytes in one of its blocks.
-pub(crate) fn content_len(sup: &Super, size: u64, block: u64) -> u64
+pub fn content_len(sup: &Super, size: u64, block: u64) -> u64
     requires { wrong_field sup.now ≡ None }
     ensures value { result ≡ content_len_by sup.now size block }
     ensures most { result ≤ 65536 }
@@ -73,7 +74,7 @@ pub(crate) fn content_len(sup: &Super, size: u64, block: u64) -> u64
 
 /// The bytes that a block has on the disk: one of the first twelve has no more fragments than it needs.
 #[tactic(auto, using(crate::proofs::SizeLaws::allocated_fits))]
-pub(crate) fn allocated_len(sup: &Super, size: u64, block: u64) -> u64
+pub fn allocated_len(sup: &Super, size: u64, block: u64) -> u64
     requires { wrong_field sup.now ≡ None }
     ensures value { result ≡ allocated_len_by sup.now size block }
     ensures most { result ≤ 131072 }

@@ -1,5 +1,5 @@
 -- One more piece behind others.
-use Rattle.std.specs.Prelude.{◌≡◌, ℕ, zero, suc, ◌+◌, ◌-◌, ◌<◌, ◌≤◌, Bool, true, false, not, All, if◌then◌else◌, ◌⊎◌, Option, Some, None, List, [], ◌∷◌, ◌++◌, length, get_or, set, refl}
+use Rattle.std.specs.Prelude.{◌≡◌, ℕ, zero, suc, ◌+◌, ◌-◌, ◌^◌, ◌<◌, ◌≤◌, Bool, true, false, All, if◌then◌else◌, ◌⊎◌, Option, Some, None, List, [], ◌∷◌, ◌++◌, length, get_or, set, refl}
 use Rattle.std.proofs.Common.{ap, sym, ◌∙◌, subst, arith, inl, inr, ⊎_elim}
 use Rattle.std.proofs.lemmas.Bool.{cases_lt, lt-ltb, le-ltb}
 use Rattle.std.proofs.lemmas.Bool.Decides.{nat_tests, Decides-eqb}
@@ -13,7 +13,8 @@ use Rattle.piece_defs.specs.Joined.{grown, joined_onto, AreInARow}
 use Rattle.piece_defs.specs.Places.{IsWithin, AreWithin, IsPlain, of_kind, place_in, place_through}
 use Rattle.piece_defs.specs.Put.{put}
 use Rattle.piece_defs.proofs.Joined.{joined_onto_grows, joined_onto_stands, joined_onto_covers}
-use Rattle.piece_defs.proofs.JoinedLaws.{first_of_all, covered_row}
+use Rattle.piece_defs.proofs.JoinedLaws.{covered_row}
+use Rattle.piece_defs.proofs.Put.{put_joined, row_push}
 
 -- ---- the last piece grows, or the new one stands behind it
 
@@ -38,6 +39,15 @@ last_grows pieces piece looked last count all any is goes same =
     ap (λ from. set pieces (count - 1) (grown from piece)) (one ∙ is)
     ∙ put-grows pieces piece looked (count - 1) (omega (arith, all, any)) (ap (λ from. is_contiguous from piece) (sym is) ∙ goes)
 
+pub last_fits : (pieces : List Piece) (piece looked last : Piece) (count : ℕ) → count ≡ length pieces → 0 < count → looked ≡ get_or pieces (count - 1) looked → is_contiguous looked piece ≡ true → last ≡ get_or pieces (count - 1) last
+    → All (λ one. is_contiguous one piece ≡ true → one.len + piece.len < 2 ^ 64) pieces → last.len + piece.len < 2 ^ 64
+last_fits pieces piece looked last count all any is goes same fits =
+    let inside : count - 1 < length pieces = omega (arith, all, any) in
+    let one : last ≡ get_or pieces (count - 1) looked = same ∙ get_or_default pieces (count - 1) last looked inside in
+    let long : last.len ≡ (get_or pieces (count - 1) looked).len = ap (λ p. p.len) one in
+    let less = fits (count - 1) looked inside (ap (λ from. is_contiguous from piece) (sym is) ∙ goes) in
+    omega (arith, long, less)
+
 pub last_stands : (pieces : List Piece) (piece looked : Piece) (count : ℕ) → count ≡ length pieces → looked ≡ get_or pieces (count - 1) looked → is_contiguous looked piece ≡ false → pieces ++ piece ∷ [] ≡ put pieces piece
 last_stands pieces piece looked count all is apart =
     put-stands pieces piece looked
@@ -59,25 +69,14 @@ row_len from size (piece ∷ next ∷ rest) zero d inside row =
 row_len from size (piece ∷ next ∷ rest) (suc i) d inside row =
     let behind = row_len (from + piece.len) size (next ∷ rest) i d (omega (arith, inside)) row.2 in (omega (arith, behind.0), omega (arith, behind.1))
 
-pub covered_len : (size : ℕ) (pieces : List Piece) (i : ℕ) (d : Piece) → i < length pieces → covers_from 0 size pieces ≡ true → (get_or pieces i d).len ≤ size
+covered_len : (size : ℕ) (pieces : List Piece) (i : ℕ) (d : Piece) → i < length pieces → covers_from 0 size pieces ≡ true → (get_or pieces i d).len ≤ size
 covered_len size pieces i d inside covered = let all = row_len 0 size pieces i d inside (covered_row 0 size pieces covered) in omega (arith, all.1)
 
+-- so one that goes on where they end makes none too long
+pub covered_fits : (pieces : List Piece) (piece : Piece) → covers_from 0 piece.from pieces ≡ true → piece.from + piece.len < 2 ^ 64 → All (λ last. is_contiguous last piece ≡ true → last.len + piece.len < 2 ^ 64) pieces
+covered_fits pieces piece covered fits = λ k d inside goes. let short = covered_len piece.from pieces k d inside covered in omega (arith, short, fits)
+
 -- ---- they cover the longer content
-
-row_push : (from end : ℕ) (pieces : List Piece) (piece : Piece) → AreInARow from end pieces → piece.from ≡ end → 0 < piece.len → AreInARow from (end + piece.len) (pieces ++ piece ∷ [])
-row_push from end [] piece row begins some = (omega (arith, row, begins), some, omega (arith, row))
-row_push from end (first ∷ rest) piece row begins some = (row.0, row.1, row_push (from + first.len) end rest piece row.2 begins some)
-
-put_joined : (from end : ℕ) (first : Piece) (rest : List Piece) (piece : Piece) → covers_from from end (first ∷ rest) ≡ true → put (first ∷ rest) piece ≡ joined_onto first (rest ++ piece ∷ [])
-put_joined from end first [] piece covered = refl
-put_joined from end first (next ∷ rest) piece covered =
-    let facts = first_of_all from end first (next ∷ rest) covered in
-    ap (λ list. first ∷ list) (put_joined (from + first.len) end next rest piece facts.rest)
-    ∙ sym (joined_onto_stands first next (rest ++ piece ∷ []) (not_true (is_contiguous first next) facts.anew))
-  where
-    not_true : (goes : Bool) → not goes ≡ true → goes ≡ false
-    not_true true is = absurd cc
-    not_true false is = refl
 
 pub put_covers : (end : ℕ) (pieces : List Piece) (piece : Piece) → covers_from 0 end pieces ≡ true → piece.from ≡ end → 0 < piece.len → covers_from 0 (end + piece.len) (put pieces piece) ≡ true
 put_covers end [] piece covered begins some = let none : 0 ≡ end = (Decides-eqb 0 end).0 covered in grind (arith, nat_tests)

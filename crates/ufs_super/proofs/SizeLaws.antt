@@ -1,51 +1,19 @@
 -- The sizes of a volume whose superblock has no wrong field.
-use Rattle.std.specs.Prelude.{◌≡◌, ℕ, zero, suc, ◌+◌, ◌*◌, ◌<◌, ◌≤◌, Bool, true, false, not, ◌&&◌, ◌==◌, nat_le, if◌then◌else◌, Some, None, List, [], ◌∷◌, refl}
-use Rattle.std.specs.Int.{is_power_of_two, div_ceil}
+use Rattle.std.specs.Prelude.{◌≡◌, ℕ, zero, suc, ◌+◌, ◌*◌, ◌<◌, ◌≤◌, Bool, true, false, ◌==◌, if◌then◌else◌, None}
+use Rattle.std.specs.Int.{div_ceil}
 use Rattle.std.proofs.Common.{arith, ap}
-use Rattle.std.proofs.lemmas.Bool.{leb-true}
 use Rattle.std.proofs.lemmas.Grind.{div_ceil_times}
 use Rattle.std.proofs.Math.Nat.{mul-le-mul_right, mul-le-mul_left, div-mul-le_self}
 use Rattle.bytes_defs.specs.Numbers.{bytes_of_width}
 use Rattle.ufs_inode_defs.specs.Layout.{Layout, layout_1, layout_2, pointer_len}
 use Rattle.ufs_inode_defs.specs.Numbers.{counted}
-use Rattle.ufs_inode_defs.specs.Superblock.{first_applying, wrong_parts, wrong_field, block_size, fragment_size, is_block_size}
+use Rattle.ufs_inode_defs.specs.Superblock.{wrong_field, block_size, fragment_size}
 use Rattle.ufs_inode_defs.specs.Stream.{content_len}
 use Rattle.ufs_inode_defs.specs.declared.superblock.Super.{Super}
 use Rattle.ufs_inode_defs.proofs.SoundSuper.{is_sound}
 
-it_holds : (test : Bool) → not test ≡ false → test ≡ true
-it_holds true holds = refl
-it_holds false holds = absurd cc
-
-both_hold : (first second : Bool) → (first && second) ≡ true → (first ≡ true) × (second ≡ true)
-both_hold true second both = (refl, both)
-both_hold false second both = absurd cc
-
-greatest_block : (size : ℕ) → not (is_block_size size) ≡ false → size ≤ 65536
-unfolding is_block_size
-greatest_block size none =
-    leb-true size 65536 (both_hold (nat_le 4096 size) (nat_le size 65536) (both_hold (is_power_of_two size) (nat_le 4096 size && nat_le size 65536) (it_holds (is_block_size size) none)).1).1
-
--- the first part of the list doesn't apply
-IsFirstFine : List (Bool × ℕ) → Type 0
-IsFirstFine [] = Unit {0}
-IsFirstFine (part ∷ parts) = part.0 ≡ false
-
-first_fine : (parts : List (Bool × ℕ)) → first_applying parts ≡ None → IsFirstFine parts
-unfolding IsFirstFine
-first_fine [] none = tt
-first_fine (part ∷ parts) none = by_test part.0 none
-  where
-    by_test : (applies : Bool) → (if applies then Some part.1 else first_applying parts) ≡ None → applies ≡ false
-    by_test true none = absurd cc
-    by_test false none = refl
-
-block_at_most : (sup : Super) → wrong_field sup ≡ None → block_size sup ≤ 65536
-unfolding wrong_field IsFirstFine
-block_at_most sup none = greatest_block (block_size sup) (first_fine (wrong_parts sup) none)
-
 pub block_bounds : (sup : Super) → wrong_field sup ≡ None → (4096 ≤ block_size sup) × (block_size sup ≤ 65536)
-block_bounds sup none = ((is_sound sup none).block, block_at_most sup none)
+block_bounds sup none = let sound = is_sound sup none in (sound.block, sound.most)
 
 -- a block has some fragments, so one of them isn't longer
 some_of : (count fragment block : ℕ) → 0 < block → count * fragment ≡ block → fragment ≤ block
@@ -92,6 +60,6 @@ span_bounds sup none = let all = spans sup.nindir (few_pointers sup none) in (fe
 pub allocated_fits : (sup : Super) (size block : ℕ) → wrong_field sup ≡ None → div_ceil (content_len sup size block) (fragment_size sup) * fragment_size sup ≤ 131072
 allocated_fits sup size block none =
     let fragment = fragment_bounds sup none in
-    let block_most = block_at_most sup none in
+    let block_most = (is_sound sup none).most in
     let times = div_ceil_times (content_len sup size block) (fragment_size sup) (omega (arith, fragment.0)) in
     omega (arith, times.1, fragment.1, block_most)

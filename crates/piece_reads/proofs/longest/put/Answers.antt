@@ -1,14 +1,14 @@
-use Rattle.std.proofs.Common.{◌-◌, ap, sym, ◌∙◌, arith}
-use Rattle.ufs_blocks.proofs.Putting.{last_grows, last_stands, first_stands, covered_len}
-use Rattle.ufs_blocks.proofs.step.put.Goals as goal
-use Rattle.ufs_blocks.proofs.step.put.Goals.{else-count-gt0-via-then-count-gt0+else-is_contiguous, else-count-gt0-via-else-count-gt0}
+use Rattle.std.proofs.Common.{sym, ◌∙◌, arith}
+use Rattle.piece_reads.proofs.Putting.{last_fits, last_grows, last_stands, first_stands}
+use Rattle.piece_reads.proofs.longest.put.Goals as goal
+use Rattle.piece_reads.proofs.longest.put.Goals.{else-count-gt0-via-then-count-gt0+else-is_contiguous, else-count-gt0-via-else-count-gt0}
 
 pub overflow_add-index_mut : goal.overflow_add-index_mut
 overflow_add-index_mut c =
-    let short = covered_len c.args.piece.from c.args.pieces.now.items (c.len-count.result - 1) c.index_mut.result.now (omega arith) c.requires.covered in
-    let same = ap (λ p. p.len) c.index_mut.ensures.value in
-    let fits = c.requires.fits in
-    omega (arith, short, same, fits)
+    let fits =
+    last_fits c.args.pieces.now.items c.args.piece c.index.result.now c.index_mut.result.now c.len-count.result (omega arith) c.if-count-gt0.true
+    c.index.ensures (sym c.is_contiguous.ensures ∙ c.if-is_contiguous.true) c.index_mut.ensures.value c.requires.fits in
+    omega (arith, fits)
 
 pub returns-then-is_contiguous : goal.returns-then-is_contiguous
 returns-then-is_contiguous c =
