@@ -1,4 +1,5 @@
 pub mod Bounds
 pub mod InodeTests
+pub mod KeptLaws
 pub mod Sound
 pub mod Steps

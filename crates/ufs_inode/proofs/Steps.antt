@@ -1,5 +1,5 @@
 -- What the inode of a number gives.
-use Rattle.std.specs.Prelude.{◌≡◌, ℕ, ◌+◌, ◌*◌, ◌^◌, ◌<◌, ◌≤◌, ◌==◌, ◌&&◌, Bool, true, false, if◌then◌else◌, nat_lt, Option, Some, None, IfSome, IfOk, Result, Ok, Err, List, [], ◌∷◌, ◌++◌}
+use Rattle.std.specs.Prelude.{◌≡◌, ℕ, ◌+◌, ◌*◌, ◌^◌, ◌<◌, ◌≤◌, ◌==◌, ◌&&◌, Bool, true, false, if◌then◌else◌, nat_lt, Option, Some, None, IfSome, Result, Ok, Err, List, [], ◌∷◌, ◌++◌}
 use Rattle.std.proofs.Common.{ap, sym, subst, ◌∙◌, arith}
 use Rattle.std.proofs.lemmas.Bool.{leb-true}
 use Rattle.range_defs.specs.declared.Range.{Range}
@@ -75,27 +75,8 @@ least_inode : (first : Bool) → (let layout : Layout = if first then layout_1 e
 least_inode true = omega arith
 least_inode false = omega arith
 
-pub place_fits : (sup : Super) (number at size : ℕ) → has_inode sup number ≡ true → at ≡ inode_place sup number → sup.at + sup.len ≤ size → size < 2 ^ 64 → at < 2 ^ 64
-place_fits sup number at size has here inside fits =
-    let lies = lies_inside sup number has in
-    omega (arith, lies, here, inside, fits)
-
-pub place_inside : (sup : Super) (number at size : ℕ) → has_inode sup number ≡ true → at ≡ inode_place sup number → sup.at + sup.len ≤ size → at + (layout_of sup.version).inode_len ≤ size
-place_inside sup number at size has here inside =
-    let lies = lies_inside sup number has in
-    omega (arith, lies, here, inside)
-
-pub fields_fit : (sup : Super) (number at size : ℕ) → has_inode sup number ≡ true → at ≡ inode_place sup number → sup.at + sup.len ≤ size → size < 2 ^ 64 → at + 128 ≤ 18446744073709551615
-fields_fit sup number at size has here inside fits =
+pub fields_fit : (sup : Super) (number at : ℕ) → has_inode sup number ≡ true → at ≡ inode_place sup number → sup.at + sup.len < 2 ^ 64 → at + 128 ≤ 18446744073709551615
+fields_fit sup number at has here fits =
     let lies = lies_inside sup number has in
     let least = least_inode (sup.version == 1) in
-    omega (arith, lies, least, here, inside, fits)
-
--- an inode that the volume has ends in it
-pub inode_ends : (result : Result Inode ReadFault) (sup : Super) (number : ℕ) (inode : Inode) → IfOk result (λ found. found ≡ inode) → has_inode sup number ≡ true → inode.at ≡ inode_place sup number
-    → IfOk result (λ found. found.at + (layout_of sup.version).inode_len ≤ sup.at + sup.len)
-inode_ends (Err fault) sup number inode is has here = tt
-inode_ends (Ok found) sup number inode is has here =
-    let lies = lies_inside sup number has in
-    let at : found.at ≡ inode.at = ap (λ one. one.at) is in
-    omega (arith, lies, here, at)
+    omega (arith, lies, least, here, fits)

@@ -10,11 +10,13 @@
 //!     root.direct[0]        // the fragment at which the root's first block begins
 #![tactic(auto)]
 
+mod block;
 mod fields;
 mod place;
 mod read;
 mod tested;
 
+pub use block::InodeBlock;
 pub use read::{look_at_inode, read_inode};
 pub use ufs_inode_defs::inode::Inode;
 

@@ -1,5 +1,6 @@
 //! Where inodes stand.
-ghost use Rattle.std.specs.Prelude.{◌≡◌, ◌+◌, ◌-◌, ◌*◌, ◌^◌, ◌<◌, bit_and, None};
+ghost use Rattle.std.specs.Prelude.{◌≡◌, ◌+◌, ◌-◌, ◌*◌, ◌%◌, ◌^◌, ◌<◌, bit_and, None};
+ghost use Rattle.ufs_inode_defs.specs.Layout.{layout_of};
 ghost use Rattle.ufs_inode_defs.specs.Superblock.{wrong_field, group_start as group_start_by, inode_place as inode_place_by, has_inode as has_inode_by};
 
 use ufs_inode_defs::superblock::Super;
@@ -41,6 +42,14 @@ fn group_start(sup: &Super, group: u32) -> u128
     u128::from(start) + u128::from(product(non_negative(sup.old_cgoffset), bits))
 }
 
+/// The bytes in front of an inode in its block of the table.
+pub(crate) fn bytes_in_front(sup: &Super, number: u32) -> u64
+    requires { wrong_field sup.now ≡ None }
+    ensures { result ≡ (layout_of sup.now.version).inode_len * (number % sup.now.inopb) }
+{
+    product(inode_len(sup.version), number % sup.inopb)
+}
+
 /// The place of an inode in the image: the macros `ino_to_fsba` and `ino_to_fsbo`. It may pass 64 bits.
 #[tactic(auto, unfolding(ufs_inode_defs::specs::Superblock::inode_place))]
 pub(crate) fn inode_place(sup: &Super, number: u32) -> u128
@@ -51,8 +60,9 @@ pub(crate) fn inode_place(sup: &Super, number: u32) -> u128
     let group = group_start(sup, number / sup.ipg);
     let blocks = product(non_negative(sup.frag), number % sup.ipg / sup.inopb);
     let fragment = group + u128::from(non_negative(sup.iblkno)) + u128::from(blocks);
-    let within = product(inode_len(sup.version), number % sup.inopb);
-    u128::from(sup.at) + scaled(fragment, fragment_size(sup)) + u128::from(within)
+    u128::from(sup.at)
+        + scaled(fragment, fragment_size(sup))
+        + u128::from(bytes_in_front(sup, number))
 }
 
 /// Whether the volume has an inode of a number, and it lies in the volume.

@@ -3,7 +3,7 @@ ghost use Rattle.std.specs.Prelude.{◌≡◌, IfOk, length};
 ghost use Rattle.disk_defs.specs.Memory.{held_in_memory};
 
 use crate::fields::inode_2_from;
-use crate::{look_at_inode, read_inode};
+use crate::{InodeBlock, look_at_inode, read_inode};
 use bytes_defs::Order;
 use range_defs::Range;
 use rx_store::{MemStore, ReadFault, Sort, Store, What};
@@ -65,7 +65,8 @@ fn the_fields_are_those_of_the_inode(rt: HostRuntime) -> Result<(), Fail> {
         .ok()
         .ok_or("no superblock")?;
     let mut looked = Vec::new(rt.alloc());
-    let root = look_at_inode(&mut store, &sup, 2, 65_536, &mut looked);
+    let mut block = InodeBlock::new(rt.alloc())?;
+    let root = look_at_inode(&mut store, &sup, 2, 65_536, &mut block, &mut looked);
     assert_eq!(rt;
         root.map(|root| (root.mode, root.size)),
         Ok((0o040_755, 512))
@@ -81,6 +82,31 @@ fn the_fields_are_those_of_the_inode(rt: HostRuntime) -> Result<(), Fail> {
             at: 12_544,
             len: 128
         }
+    );
+    Ok(())
+}
+
+#[test]
+fn a_block_of_the_table_is_read_once(rt: HostRuntime) -> Result<(), Fail> {
+    let mut store = store_of(rt.alloc(), &volume())?;
+    let sup = read_super(&mut store, 0, 49_664)
+        .ok()
+        .ok_or("no superblock")?;
+    store.fail_at(vec![in rt.alloc(); 4]?);
+    let mut looked = Vec::new(rt.alloc());
+    let mut block = InodeBlock::new(rt.alloc())?;
+    assert!(rt; look_at_inode(&mut store, &sup, 2, 7, &mut block, &mut looked).is_ok());
+    assert_eq!(rt;
+        look_at_inode(&mut store, &sup, 3, 7, &mut block, &mut looked).err(),
+        Some(ReadFault::Damaged(Sort::DeadInode, 12_672))
+    );
+    assert_eq!(rt;
+        look_at_inode(&mut store, &sup, 34, 7, &mut block, &mut looked).err(),
+        Some(ReadFault::Device)
+    );
+    assert_eq!(rt;
+        look_at_inode(&mut store, &sup, 34, 7, &mut block, &mut looked).err(),
+        Some(ReadFault::Unsupported(What::Snapshot, 49_508))
     );
     Ok(())
 }

@@ -9,6 +9,3 @@ nonzero_rem-number c = (has_inodes c.args.sup.now c.requires.sound).in_group
 
 pub nonzero_div-number-2 : goal.nonzero_div-number-2
 nonzero_div-number-2 c = (has_inodes c.args.sup.now c.requires.sound).in_block
-
-pub nonzero_rem-number-2 : goal.nonzero_rem-number-2
-nonzero_rem-number-2 c = (has_inodes c.args.sup.now c.requires.sound).in_block
