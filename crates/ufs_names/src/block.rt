@@ -8,13 +8,15 @@ ghost use Rattle.image_reads.specs.Steps.{ReadsAs};
 ghost use Rattle.range_defs.specs.declared.TheConstants.{LONGEST_IMAGE};
 ghost use Rattle.rx_ranges.specs.Path.{IsPath};
 ghost use Rattle.rx_store.specs.ReadFaults.{IsReadCounted};
+ghost use Rattle.ufs_inode.specs.Block.{IsBlockOf};
 ghost use Rattle.ufs_inode_defs.specs.Stream.{content_len as content_len_by};
 ghost use Rattle.ufs_inode_defs.specs.Superblock.{block_size as block_size_by, wrong_field};
 ghost use Rattle.ufs_volume_defs.specs.Names.{block_names as block_names_by, entry_name as entry_name_by};
 ghost use Rattle.ufs_names.specs.Walked.{BeginsIn, IsWalked, KeptWithin, LiesIn};
 
-use crate::entry::{Block, entry_name};
+use crate::entry::{Block, Place, entry_name};
 use crate::name::Name;
+use crate::seen::Seen;
 use crate::sizes::content_len;
 use crate::walk::Walk;
 use range_defs::Range;
@@ -60,26 +62,27 @@ fn entries_names<S: Store>(
     alloc: Global,
     store: &mut S,
     sup: &Super,
-    directory: &Name,
-    block: &Block,
+    place: &Place<'_>,
     mut walk: Walk,
     entries: &[Entry<'_>],
-    looked: &mut Vec<Range>,
+    seen: &mut Seen,
 ) -> Result<Walk, ReadFault>
     requires sound { wrong_field sup.now ≡ None }
     requires inside { sup.now.at + sup.now.len ≤ size_of Image (S.state store.old) }
-    requires path { IsPath directory.now.path }
+    requires path { IsPath place.now.directory.now.path }
     requires walked { IsWalked sup.now walk }
-    requires offsets { All (λ entry. block.now.index * block_size_by sup.now + entry.at < 2 ^ 64) entries.now }
-    requires places { All (λ entry. block.now.at + entry.at < 2 ^ 64) entries.now }
-    ensures reads { ReadsAs (told_image (S.state store.old)) (through (entry_name_by sup.now directory.now block.now) walk entries.now) looked.old.items looked.new.items result }
+    requires offsets { All (λ entry. place.now.block.now.index * block_size_by sup.now + entry.at < 2 ^ 64) entries.now }
+    requires places { All (λ entry. place.now.block.now.at + entry.at < 2 ^ 64) entries.now }
+    requires inodes { IsBlockOf (told_image (S.state store.old)) seen.old.inodes }
+    ensures reads { ReadsAs (told_image (S.state store.old)) (through (entry_name_by sup.now place.now.directory.now place.now.block.now) walk entries.now) seen.old.looked.items seen.new.looked.items result }
     ensures walked { IfOk result (IsWalked sup.now) }
-    ensures kept { OnOk result (KeptWithin (sup.now.at + sup.now.len) looked.old.items looked.new.items) }
+    ensures kept { OnOk result (KeptWithin (sup.now.at + sup.now.len) seen.old.looked.items seen.new.looked.items) }
+    ensures inodes { OnOk result (IsBlockOf (told_image (S.state store.new)) seen.new.inodes) }
     ensures same { S.state store.new ≡ S.state store.old }
     ensures counted { IsReadCounted Image result (S.faults store.old) (S.faults store.new) }
 {
     for entry in entries {
-        walk = entry_name(alloc, store, sup, directory, block, walk, entry, looked)?;
+        walk = entry_name(alloc, store, sup, place, walk, entry, seen)?;
     }
     Ok(walk)
 }
@@ -92,7 +95,7 @@ pub(crate) fn block_names<S: Store>(
     directory: &Name,
     walk: Walk,
     block: &Block,
-    looked: &mut Vec<Range>,
+    seen: &mut Seen,
 ) -> Result<Walk, ReadFault>
     requires sound { wrong_field sup.now ≡ None }
     requires inside { sup.now.at + sup.now.len ≤ size_of Image (S.state store.old) }
@@ -103,22 +106,23 @@ pub(crate) fn block_names<S: Store>(
     requires begins { BeginsIn sup.now directory.now.inode.size block.now }
     requires lies { IfSome (told_image (S.state store.old)) (λ image. LiesIn sup.now directory.now.inode.size block.now) }
     requires walked { IsWalked sup.now walk }
-    ensures reads { ReadsAs (told_image (S.state store.old)) (block_names_by sup.now directory.now walk block.now) looked.old.items looked.new.items result }
+    requires inodes { IsBlockOf (told_image (S.state store.old)) seen.old.inodes }
+    ensures reads { ReadsAs (told_image (S.state store.old)) (block_names_by sup.now directory.now walk block.now) seen.old.looked.items seen.new.looked.items result }
     ensures walked { IfOk result (IsWalked sup.now) }
-    ensures kept { OnOk result (KeptWithin (sup.now.at + sup.now.len) looked.old.items looked.new.items) }
+    ensures kept { OnOk result (KeptWithin (sup.now.at + sup.now.len) seen.old.looked.items seen.new.looked.items) }
+    ensures inodes { OnOk result (IsBlockOf (told_image (S.state store.new)) seen.new.inodes) }
     ensures same { S.state store.new ≡ S.state store.old }
     ensures counted { IsReadCounted Image result (S.faults store.old) (S.faults store.new) }
 {
-    let bytes = read_block(alloc, store, sup, directory.inode.size, block, looked)?;
-    let entries = leading_entries(alloc, sup.order, block.at, bytes.items())?;
-    entries_names(
+    let bytes = read_block(
         alloc,
         store,
         sup,
-        directory,
+        directory.inode.size,
         block,
-        walk,
-        entries.items(),
-        looked,
-    )
+        &mut seen.looked,
+    )?;
+    let entries = leading_entries(alloc, sup.order, block.at, bytes.items())?;
+    let place = Place { directory, block };
+    entries_names(alloc, store, sup, &place, walk, entries.items(), seen)
 }

@@ -7,6 +7,7 @@ ghost use Rattle.image_reads.specs.Steps.{ReadsAs};
 ghost use Rattle.range_defs.specs.declared.TheConstants.{LONGEST_IMAGE};
 ghost use Rattle.rx_ranges.specs.Path.{IsPath};
 ghost use Rattle.rx_store.specs.ReadFaults.{IsReadCounted};
+ghost use Rattle.ufs_inode.specs.Block.{IsBlockOf};
 ghost use Rattle.ufs_inode_defs.specs.Superblock.{wrong_field};
 ghost use Rattle.ufs_volume_defs.specs.Names.{block_names as block_names_by, directory_names as directory_names_by};
 ghost use Rattle.ufs_names.specs.Walked.{BeginsIn, IsNamed, IsWalked, KeptWithin, LiesIn};
@@ -15,9 +16,9 @@ use crate::block::block_names;
 use crate::entry::Block;
 use crate::name::Name;
 use crate::places::directory_blocks;
+use crate::seen::Seen;
 use crate::sizes::{pointer_rows, size_place};
 use crate::walk::Walk;
-use range_defs::Range;
 use rx_store::{ReadFault, Sort, Store};
 use std::alloc::Global;
 use ufs_blocks::content_blocks;
@@ -31,7 +32,7 @@ fn blocks_names<S: Store>(
     directory: &Name,
     mut walk: Walk,
     blocks: &[Block],
-    looked: &mut Vec<Range>,
+    seen: &mut Seen,
 ) -> Result<Walk, ReadFault>
     requires sound { wrong_field sup.now ≡ None }
     requires inside { sup.now.at + sup.now.len ≤ size_of Image (S.state store.old) }
@@ -42,14 +43,16 @@ fn blocks_names<S: Store>(
     requires begin { All (BeginsIn sup.now directory.now.inode.size) blocks.now }
     requires lie { IfSome (told_image (S.state store.old)) (λ image. All (LiesIn sup.now directory.now.inode.size) blocks.now) }
     requires walked { IsWalked sup.now walk }
-    ensures reads { ReadsAs (told_image (S.state store.old)) (through (block_names_by sup.now directory.now) walk blocks.now) looked.old.items looked.new.items result }
+    requires inodes { IsBlockOf (told_image (S.state store.old)) seen.old.inodes }
+    ensures reads { ReadsAs (told_image (S.state store.old)) (through (block_names_by sup.now directory.now) walk blocks.now) seen.old.looked.items seen.new.looked.items result }
     ensures walked { IfOk result (IsWalked sup.now) }
-    ensures kept { OnOk result (KeptWithin (sup.now.at + sup.now.len) looked.old.items looked.new.items) }
+    ensures kept { OnOk result (KeptWithin (sup.now.at + sup.now.len) seen.old.looked.items seen.new.looked.items) }
+    ensures inodes { OnOk result (IsBlockOf (told_image (S.state store.new)) seen.new.inodes) }
     ensures same { S.state store.new ≡ S.state store.old }
     ensures counted { IsReadCounted Image result (S.faults store.old) (S.faults store.new) }
 {
     for block in blocks {
-        walk = block_names(alloc, store, sup, directory, walk, block, looked)?;
+        walk = block_names(alloc, store, sup, directory, walk, block, seen)?;
     }
     Ok(walk)
 }
@@ -61,16 +64,18 @@ pub(crate) fn directory_names<S: Store>(
     sup: &Super,
     walk: Walk,
     directory: &Name,
-    looked: &mut Vec<Range>,
+    seen: &mut Seen,
 ) -> Result<Walk, ReadFault>
     requires sound { wrong_field sup.now ≡ None }
     requires inside { sup.now.at + sup.now.len ≤ size_of Image (S.state store.old) }
     requires near { sup.now.at + sup.now.len ≤ LONGEST_IMAGE }
     requires named { IsNamed sup.now directory.now }
     requires walked { IsWalked sup.now walk }
-    ensures reads { ReadsAs (told_image (S.state store.old)) (directory_names_by sup.now walk directory.now) looked.old.items looked.new.items result }
+    requires inodes { IsBlockOf (told_image (S.state store.old)) seen.old.inodes }
+    ensures reads { ReadsAs (told_image (S.state store.old)) (directory_names_by sup.now walk directory.now) seen.old.looked.items seen.new.looked.items result }
     ensures walked { IfOk result (IsWalked sup.now) }
-    ensures kept { OnOk result (KeptWithin (sup.now.at + sup.now.len) looked.old.items looked.new.items) }
+    ensures kept { OnOk result (KeptWithin (sup.now.at + sup.now.len) seen.old.looked.items seen.new.looked.items) }
+    ensures inodes { OnOk result (IsBlockOf (told_image (S.state store.new)) seen.new.inodes) }
     ensures same { S.state store.new ≡ S.state store.old }
     ensures counted { IsReadCounted Image result (S.faults store.old) (S.faults store.new) }
 {
@@ -79,9 +84,9 @@ pub(crate) fn directory_names<S: Store>(
     if inode.size % 512 != 0 {
         return Err(ReadFault::Damaged(Sort::DirSize, size_place(sup, inode)));
     }
-    let laid = content_blocks(alloc, store, sup, inode, walk.runs, looked)?;
+    let laid = content_blocks(alloc, store, sup, inode, walk.runs, &mut seen.looked)?;
     let blocks = directory_blocks(alloc, sup, inode, &laid.pieces)?;
     let runs = laid.before + laid.pieces.len() as u64 + laid.visited;
     let walk = walk.with_runs(runs);
-    blocks_names(alloc, store, sup, directory, walk, blocks.items(), looked)
+    blocks_names(alloc, store, sup, directory, walk, blocks.items(), seen)
 }

@@ -5,6 +5,7 @@ ghost use Rattle.disk_defs.specs.declared.Area.TheVariants.{Image};
 ghost use Rattle.image_reads.specs.Steps.{ReadsAs};
 ghost use Rattle.rx_ranges.specs.Path.{IsPath};
 ghost use Rattle.rx_store.specs.ReadFaults.{IsReadCounted};
+ghost use Rattle.ufs_inode.specs.Block.{IsBlockOf};
 ghost use Rattle.ufs_inode_defs.specs.Superblock.{block_size as block_size_by, wrong_field};
 ghost use Rattle.rx_store.specs.Answers.{Answers};
 ghost use Rattle.ufs_volume_defs.specs.Names.{entry_name as entry_name_by, found_name as found_name_by, name_by as name_by_by};
@@ -12,9 +13,9 @@ ghost use Rattle.ufs_names.specs.Walked.{IsInodeOf, IsNamed, IsWalked, KeptWithi
 
 use crate::name::Name;
 use crate::path::path_of;
+use crate::seen::Seen;
 use crate::sizes::{block_size, is_directory};
 use crate::walk::Walk;
-use range_defs::Range;
 use rx_store::{ReadFault, Sort, Store};
 use std::alloc::Global;
 use std::marker::Model;
@@ -38,23 +39,31 @@ impl Model for Block {
     ghost view = { λ b. record { index = b.index; at = b.at } };
 }
 
+/// Where entries stand: a directory, and one of its blocks.
+#[derive(Debug, Drop)]
+pub(crate) struct Place<'a> {
+    pub directory: &'a Name,
+    pub block: &'a Block,
+}
+
 /// The name that an entry in a block of a directory gives an inode.
 fn name_by(
     alloc: Global,
     sup: &Super,
-    directory: &Name,
-    block: &Block,
+    place: &Place<'_>,
     entry: &Entry<'_>,
     inode: Inode,
 ) -> Result<Name, ReadFault>
     requires sound { wrong_field sup.now ≡ None }
-    requires path { IsPath directory.now.path }
+    requires path { IsPath place.now.directory.now.path }
     requires of { IsInodeOf sup.now entry.now.inode inode }
-    requires offset { block.now.index * block_size_by sup.now + entry.now.at < 2 ^ 64 }
-    ensures limited { Answers result (limited_name (name_by_by sup.now directory.now block.now entry.now inode)) }
+    requires offset { place.now.block.now.index * block_size_by sup.now + entry.now.at < 2 ^ 64 }
+    ensures limited { Answers result (limited_name (name_by_by sup.now place.now.directory.now place.now.block.now entry.now inode)) }
     ensures named { IfOk result (IsNamed sup.now) }
     ensures calm { result ≢ Err ReadFault.Device }
 {
+    let directory = place.directory;
+    let block = place.block;
     let path = path_of(alloc, &directory.path, entry.name)?;
     Ok(Name {
         number: entry.inode,
@@ -69,26 +78,26 @@ fn name_by(
 fn found_name(
     alloc: Global,
     sup: &Super,
-    directory: &Name,
-    block: &Block,
+    place: &Place<'_>,
     walk: Walk,
     entry: &Entry<'_>,
     inode: Inode,
 ) -> Result<Walk, ReadFault>
     requires sound { wrong_field sup.now ≡ None }
-    requires path { IsPath directory.now.path }
+    requires path { IsPath place.now.directory.now.path }
     requires of { IsInodeOf sup.now entry.now.inode inode }
     requires walked { IsWalked sup.now walk }
-    requires offset { block.now.index * block_size_by sup.now + entry.now.at < 2 ^ 64 }
-    requires place { block.now.at + entry.now.at < 2 ^ 64 }
-    ensures settles { Settles result (found_name_by sup.now directory.now block.now walk entry.now inode) }
+    requires offset { place.now.block.now.index * block_size_by sup.now + entry.now.at < 2 ^ 64 }
+    requires place { place.now.block.now.at + entry.now.at < 2 ^ 64 }
+    ensures settles { Settles result (found_name_by sup.now place.now.directory.now place.now.block.now walk entry.now inode) }
     ensures walked { IfOk result (IsWalked sup.now) }
     ensures calm { result ≢ Err ReadFault.Device }
 {
+    let block = place.block;
     if is_directory(&inode) && walk.knows(entry.inode) {
         return Err(ReadFault::Damaged(Sort::DirTwice, block.at + entry.at as u64));
     }
-    let name = name_by(alloc, sup, directory, block, entry, inode)?;
+    let name = name_by(alloc, sup, place, entry, inode)?;
     walk.counted_name(name)
 }
 
@@ -97,25 +106,34 @@ pub(crate) fn entry_name<S: Store>(
     alloc: Global,
     store: &mut S,
     sup: &Super,
-    directory: &Name,
-    block: &Block,
+    place: &Place<'_>,
     walk: Walk,
     entry: &Entry<'_>,
-    looked: &mut Vec<Range>,
+    seen: &mut Seen,
 ) -> Result<Walk, ReadFault>
     requires sound { wrong_field sup.now ≡ None }
     requires inside { sup.now.at + sup.now.len ≤ size_of Image (S.state store.old) }
-    requires path { IsPath directory.now.path }
+    requires path { IsPath place.now.directory.now.path }
     requires walked { IsWalked sup.now walk }
-    requires offset { block.now.index * block_size_by sup.now + entry.now.at < 2 ^ 64 }
-    requires place { block.now.at + entry.now.at < 2 ^ 64 }
-    ensures reads { ReadsAs (told_image (S.state store.old)) (entry_name_by sup.now directory.now block.now walk entry.now) looked.old.items looked.new.items result }
+    requires offset { place.now.block.now.index * block_size_by sup.now + entry.now.at < 2 ^ 64 }
+    requires place { place.now.block.now.at + entry.now.at < 2 ^ 64 }
+    requires inodes { IsBlockOf (told_image (S.state store.old)) seen.old.inodes }
+    ensures reads { ReadsAs (told_image (S.state store.old)) (entry_name_by sup.now place.now.directory.now place.now.block.now walk entry.now) seen.old.looked.items seen.new.looked.items result }
     ensures walked { IfOk result (IsWalked sup.now) }
-    ensures kept { OnOk result (KeptWithin (sup.now.at + sup.now.len) looked.old.items looked.new.items) }
+    ensures kept { OnOk result (KeptWithin (sup.now.at + sup.now.len) seen.old.looked.items seen.new.looked.items) }
+    ensures inodes { OnOk result (IsBlockOf (told_image (S.state store.new)) seen.new.inodes) }
     ensures same { S.state store.new ≡ S.state store.old }
     ensures counted { IsReadCounted Image result (S.faults store.old) (S.faults store.new) }
 {
-    let place = block.at + entry.at as u64;
-    let inode = look_at_inode(store, sup, entry.inode, place, looked)?;
-    found_name(alloc, sup, directory, block, walk, entry, inode)
+    let block = place.block;
+    let at = block.at + entry.at as u64;
+    let inode = look_at_inode(
+        store,
+        sup,
+        entry.inode,
+        at,
+        &mut seen.inodes,
+        &mut seen.looked,
+    )?;
+    found_name(alloc, sup, place, walk, entry, inode)
 }

@@ -6,15 +6,16 @@ ghost use Rattle.image_defs.specs.Through.{through};
 ghost use Rattle.image_reads.specs.Steps.{ReadsAs};
 ghost use Rattle.range_defs.specs.declared.TheConstants.{LONGEST_IMAGE};
 ghost use Rattle.rx_store.specs.ReadFaults.{IsReadCounted};
+ghost use Rattle.ufs_inode.specs.Block.{IsBlockOf};
 ghost use Rattle.ufs_inode_defs.specs.Superblock.{wrong_field};
 ghost use Rattle.ufs_volume_defs.specs.Names.{deepest, directories_behind as directories_behind_by, directory_names as directory_names_by, names_below as names_below_by};
 ghost use Rattle.ufs_names.specs.Walked.{IsNamed, IsWalked, KeptWithin};
 
 use crate::directory::directory_names;
 use crate::name::Name;
+use crate::seen::Seen;
 use crate::sizes::is_directory;
 use crate::walk::Walk;
-use range_defs::Range;
 use rx_ranges::Items;
 use rx_store::{Bound, ReadFault, Store};
 use std::alloc::{AllocError, Global};
@@ -48,21 +49,23 @@ fn level_names<S: Store>(
     sup: &Super,
     mut walk: Walk,
     directories: &[Name],
-    looked: &mut Vec<Range>,
+    seen: &mut Seen,
 ) -> Result<Walk, ReadFault>
     requires sound { wrong_field sup.now ≡ None }
     requires inside { sup.now.at + sup.now.len ≤ size_of Image (S.state store.old) }
     requires near { sup.now.at + sup.now.len ≤ LONGEST_IMAGE }
     requires named { All (IsNamed sup.now) directories.now }
     requires walked { IsWalked sup.now walk }
-    ensures reads { ReadsAs (told_image (S.state store.old)) (through (directory_names_by sup.now) walk directories.now) looked.old.items looked.new.items result }
+    requires inodes { IsBlockOf (told_image (S.state store.old)) seen.old.inodes }
+    ensures reads { ReadsAs (told_image (S.state store.old)) (through (directory_names_by sup.now) walk directories.now) seen.old.looked.items seen.new.looked.items result }
     ensures walked { IfOk result (IsWalked sup.now) }
-    ensures kept { OnOk result (KeptWithin (sup.now.at + sup.now.len) looked.old.items looked.new.items) }
+    ensures kept { OnOk result (KeptWithin (sup.now.at + sup.now.len) seen.old.looked.items seen.new.looked.items) }
+    ensures inodes { OnOk result (IsBlockOf (told_image (S.state store.new)) seen.new.inodes) }
     ensures same { S.state store.new ≡ S.state store.old }
     ensures counted { IsReadCounted Image result (S.faults store.old) (S.faults store.new) }
 {
     for directory in directories {
-        walk = directory_names(alloc, store, sup, walk, directory, looked)?;
+        walk = directory_names(alloc, store, sup, walk, directory, seen)?;
     }
     Ok(walk)
 }
@@ -74,16 +77,18 @@ pub(crate) fn names_below<S: Store>(
     sup: &Super,
     mut walk: Walk,
     mut directories: Items<Name>,
-    looked: &mut Vec<Range>,
+    seen: &mut Seen,
 ) -> Result<Walk, ReadFault>
     requires sound { wrong_field sup.now ≡ None }
     requires inside { sup.now.at + sup.now.len ≤ size_of Image (S.state store.old) }
     requires near { sup.now.at + sup.now.len ≤ LONGEST_IMAGE }
     requires named { All (IsNamed sup.now) directories }
     requires walked { IsWalked sup.now walk }
-    ensures reads { ReadsAs (told_image (S.state store.old)) (names_below_by (suc deepest) sup.now walk directories) looked.old.items looked.new.items result }
+    requires inodes { IsBlockOf (told_image (S.state store.old)) seen.old.inodes }
+    ensures reads { ReadsAs (told_image (S.state store.old)) (names_below_by (suc deepest) sup.now walk directories) seen.old.looked.items seen.new.looked.items result }
     ensures walked { IfOk result (IsWalked sup.now) }
-    ensures kept { OnOk result (KeptWithin (sup.now.at + sup.now.len) looked.old.items looked.new.items) }
+    ensures kept { OnOk result (KeptWithin (sup.now.at + sup.now.len) seen.old.looked.items seen.new.looked.items) }
+    ensures inodes { OnOk result (IsBlockOf (told_image (S.state store.new)) seen.new.inodes) }
     ensures same { S.state store.new ≡ S.state store.old }
     ensures counted { IsReadCounted Image result (S.faults store.old) (S.faults store.new) }
 {
@@ -92,7 +97,7 @@ pub(crate) fn names_below<S: Store>(
             return Ok(walk);
         }
         let count = walk.names.len();
-        walk = level_names(alloc, store, sup, walk, directories.items(), looked)?;
+        walk = level_names(alloc, store, sup, walk, directories.items(), seen)?;
         directories = directories_behind(alloc, count, walk.names.as_slice())?;
     }
     if directories.items().is_empty() {

@@ -18,6 +18,7 @@ mod name;
 mod path;
 mod places;
 mod root;
+mod seen;
 mod sizes;
 mod walk;
 

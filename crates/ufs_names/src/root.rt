@@ -5,6 +5,7 @@ ghost use Rattle.disk_defs.specs.declared.Area.TheVariants.{Image};
 ghost use Rattle.image_reads.specs.Steps.{ReadsAs};
 ghost use Rattle.range_defs.specs.declared.TheConstants.{LONGEST_IMAGE};
 ghost use Rattle.rx_store.specs.ReadFaults.{IsReadCounted};
+ghost use Rattle.ufs_inode.specs.Block.{IsBlockOf};
 ghost use Rattle.ufs_inode_defs.specs.Blocks.{most_runs};
 ghost use Rattle.ufs_inode_defs.specs.Superblock.{wrong_field};
 ghost use Rattle.ufs_volume_defs.specs.Names.{most_names, most_path_bytes, names_from as names_from_by, path_bytes, root_inode as root_inode_by, root_name as root_name_by, volume_names};
@@ -12,13 +13,15 @@ ghost use Rattle.ufs_names.specs.Walked.{IsInodeOf, IsNamed, IsWalked, KeptWithi
 
 use crate::levels::names_below;
 use crate::name::Name;
+use crate::seen::Seen;
 use crate::sizes::{is_directory, super_place};
 use crate::walk::Walk;
 use range_defs::Range;
 use rx_ranges::{Items, Text};
 use rx_store::{ReadFault, Sort, Store};
 use std::alloc::{AllocError, Global};
-use ufs_inode::look_at_inode;
+use std::mem;
+use ufs_inode::{InodeBlock, look_at_inode};
 use ufs_inode_defs::inode::Inode;
 use ufs_inode_defs::superblock::Super;
 
@@ -26,21 +29,26 @@ use ufs_inode_defs::superblock::Super;
 const ROOT: u32 = 2;
 
 /// The root, which is a directory.
-fn root_inode<S: Store>(
-    store: &mut S,
-    sup: &Super,
-    looked: &mut Vec<Range>,
-) -> Result<Inode, ReadFault>
+fn root_inode<S: Store>(store: &mut S, sup: &Super, seen: &mut Seen) -> Result<Inode, ReadFault>
     requires sound { wrong_field sup.now ≡ None }
     requires inside { sup.now.at + sup.now.len ≤ size_of Image (S.state store.old) }
     requires near { sup.now.at + sup.now.len ≤ LONGEST_IMAGE }
-    ensures reads { ReadsAs (told_image (S.state store.old)) (root_inode_by sup.now) looked.old.items looked.new.items result }
+    requires inodes { IsBlockOf (told_image (S.state store.old)) seen.old.inodes }
+    ensures reads { ReadsAs (told_image (S.state store.old)) (root_inode_by sup.now) seen.old.looked.items seen.new.looked.items result }
     ensures of { IfOk result (IsInodeOf sup.now 2) }
-    ensures kept { OnOk result (KeptWithin (sup.now.at + sup.now.len) looked.old.items looked.new.items) }
+    ensures kept { OnOk result (KeptWithin (sup.now.at + sup.now.len) seen.old.looked.items seen.new.looked.items) }
+    ensures inodes { OnOk result (IsBlockOf (told_image (S.state store.new)) seen.new.inodes) }
     ensures same { S.state store.new ≡ S.state store.old }
     ensures counted { IsReadCounted Image result (S.faults store.old) (S.faults store.new) }
 {
-    let inode = look_at_inode(store, sup, ROOT, super_place(sup), looked)?;
+    let inode = look_at_inode(
+        store,
+        sup,
+        ROOT,
+        super_place(sup),
+        &mut seen.inodes,
+        &mut seen.looked,
+    )?;
     if !is_directory(&inode) {
         return Err(ReadFault::Damaged(Sort::RootKind, inode.at));
     }
@@ -66,21 +74,44 @@ fn names_from<S: Store>(
     store: &mut S,
     sup: &Super,
     inode: Inode,
-    looked: &mut Vec<Range>,
+    seen: &mut Seen,
 ) -> Result<Walk, ReadFault>
     requires sound { wrong_field sup.now ≡ None }
     requires inside { sup.now.at + sup.now.len ≤ size_of Image (S.state store.old) }
     requires near { sup.now.at + sup.now.len ≤ LONGEST_IMAGE }
     requires of { IsInodeOf sup.now 2 inode }
-    ensures reads { ReadsAs (told_image (S.state store.old)) (names_from_by sup.now inode) looked.old.items looked.new.items result }
+    requires inodes { IsBlockOf (told_image (S.state store.old)) seen.old.inodes }
+    ensures reads { ReadsAs (told_image (S.state store.old)) (names_from_by sup.now inode) seen.old.looked.items seen.new.looked.items result }
     ensures walked { IfOk result (IsWalked sup.now) }
-    ensures kept { OnOk result (KeptWithin (sup.now.at + sup.now.len) looked.old.items looked.new.items) }
+    ensures kept { OnOk result (KeptWithin (sup.now.at + sup.now.len) seen.old.looked.items seen.new.looked.items) }
+    ensures inodes { OnOk result (IsBlockOf (told_image (S.state store.new)) seen.new.inodes) }
     ensures same { S.state store.new ≡ S.state store.old }
     ensures counted { IsReadCounted Image result (S.faults store.old) (S.faults store.new) }
 {
     let walk = Walk::of_root(alloc, root_name(alloc, inode)?)?;
     let root = vec![in alloc; root_name(alloc, inode)?]?;
-    names_below(alloc, store, sup, walk, Items::from_vec(root), looked)
+    names_below(alloc, store, sup, walk, Items::from_vec(root), seen)
+}
+
+/// The names of a volume, by what was seen of it.
+fn names_at<S: Store>(
+    alloc: Global,
+    store: &mut S,
+    sup: &Super,
+    seen: &mut Seen,
+) -> Result<Walk, ReadFault>
+    requires sound { wrong_field sup.now ≡ None }
+    requires inside { sup.now.at + sup.now.len ≤ size_of Image (S.state store.old) }
+    requires near { sup.now.at + sup.now.len ≤ LONGEST_IMAGE }
+    requires inodes { IsBlockOf (told_image (S.state store.old)) seen.old.inodes }
+    ensures reads { ReadsAs (told_image (S.state store.old)) (volume_names sup.now) seen.old.looked.items seen.new.looked.items result }
+    ensures walked { IfOk result (IsWalked sup.now) }
+    ensures kept { OnOk result (KeptWithin (sup.now.at + sup.now.len) seen.old.looked.items seen.new.looked.items) }
+    ensures same { S.state store.new ≡ S.state store.old }
+    ensures counted { IsReadCounted Image result (S.faults store.old) (S.faults store.new) }
+{
+    let inode = root_inode(store, sup, seen)?;
+    names_from(alloc, store, sup, inode, seen)
 }
 
 /// The names of a volume with this superblock, in the order of the walk from the root, and the runs that were counted. The
@@ -103,6 +134,12 @@ pub fn read_names<S: Store>(
     ensures same { S.state store.new ≡ S.state store.old }
     ensures counted { IsReadCounted Image result (S.faults store.old) (S.faults store.new) }
 {
-    let inode = root_inode(store, sup, looked)?;
-    names_from(alloc, store, sup, inode, looked)
+    let inodes = InodeBlock::new(alloc)?;
+    let mut seen = Seen {
+        looked: mem::replace(looked, Vec::new(alloc)),
+        inodes,
+    };
+    let walk = names_at(alloc, store, sup, &mut seen);
+    *looked = seen.looked;
+    walk
 }

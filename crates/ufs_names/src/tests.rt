@@ -146,7 +146,7 @@ fn a_read_that_fails_in_mid_walk_is_told(rt: HostRuntime) -> Result<(), Fail> {
     let sup = read_super(&mut store, 0, 49_664)
         .ok()
         .ok_or("no superblock")?;
-    store.fail_at([7, 8].to_vec(rt.alloc())?);
+    store.fail_at(vec![in rt.alloc(); 5]?);
     let mut looked = Vec::new(rt.alloc());
     let walk = read_names(rt.alloc(), &mut store, &sup, &mut looked);
     assert_eq!(rt; walk.err(), Some(ReadFault::Device));

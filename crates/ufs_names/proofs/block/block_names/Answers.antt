@@ -16,18 +16,18 @@ leading_entries-requires-clause-whole g c =
 
 pub returns-in_err-entries-clause-reads : goal.returns-in_err-entries-clause-reads
 returns-in_err-entries-clause-reads g c =
-    block_stops (told_image (g.S.Store.state c.args.store.now)) c.args.sup.now c.args.directory.now c.args.walk c.args.block.now c.args.looked.now.items c.read_block.new.looked.items
+    block_stops (told_image (g.S.Store.state c.args.store.now)) c.args.sup.now c.args.directory.now c.args.walk c.args.block.now c.args.seen.now.looked.items c.read_block.new.looked.items
     c.directory.inside.inode.size c.block.inside.at c.in_ok-bytes.bytes c.items.result.now c.from_residual-in_err-entries.result c.in_err-entries.field-0.0
     c.from_residual-in_err-entries.ensures.0 c.from_residual-in_err-entries.ensures.1 (ap (λ name. name.inode.size) c.directory.view_is) (ap (λ block. block.at) c.block.view_is) c.items.ensures
     c.in_ok-bytes.ensures.reads c.in_err-entries.ensures.entries
 
 pub returns-clause-reads : goal.returns-clause-reads
 returns-clause-reads g c =
-    block_goes (told_image (g.S.Store.state c.args.store.now)) c.args.sup.now c.args.directory.now c.args.walk c.args.block.now c.args.looked.now.items c.read_block.new.looked.items
+    block_goes (told_image (g.S.Store.state c.args.store.now)) c.args.sup.now c.args.directory.now c.args.walk c.args.block.now c.args.seen.now.looked.items c.read_block.new.looked.items
     c.directory.inside.inode.size c.block.inside.at c.in_ok-bytes.bytes c.items.result.now (told_image (g.S.Store.state c.read_block.new.store)) c.in_ok-entries.entries c.items-2.result.now
-    c.entries_names.new.looked.items c.entries_names.result (ap told_image c.in_ok-bytes.ensures.same) (ap (λ name. name.inode.size) c.directory.view_is) (ap (λ block. block.at) c.block.view_is)
+    c.entries_names.new.seen.looked.items c.entries_names.result (ap told_image c.in_ok-bytes.ensures.same) (ap (λ name. name.inode.size) c.directory.view_is) (ap (λ block. block.at) c.block.view_is)
     c.items.ensures c.items-2.ensures c.in_ok-bytes.ensures.reads c.in_ok-entries.ensures.entries c.entries_names.ensures.reads
 
 pub returns-clause-kept : goal.returns-clause-kept
 returns-clause-kept g c =
-    kept_then c.entries_names.result (c.args.sup.now.at + c.args.sup.now.len) c.args.looked.now.items c.read_block.new.looked.items c.entries_names.new.looked.items c.in_ok-bytes.ensures.kept c.entries_names.ensures.kept
+    kept_then c.entries_names.result (c.args.sup.now.at + c.args.sup.now.len) c.args.seen.now.looked.items c.read_block.new.looked.items c.entries_names.new.seen.looked.items c.in_ok-bytes.ensures.kept c.entries_names.ensures.kept

@@ -3,6 +3,7 @@ use Rattle.disk_defs.specs.Disk.{told_image}
 use Rattle.image_defs.specs.Standing.{IsCome}
 use Rattle.image_defs.specs.Through.{through}
 use Rattle.ufs_volume_defs.specs.Names.{block_names}
+use Rattle.ufs_inode.specs.Block.{IsBlockOf}
 use Rattle.ufs_names.specs.Walked.{IsWalked, KeptWithin}
 use Rattle.ufs_names.proofs.directory.blocks_names.Given as goal
 
@@ -13,7 +14,8 @@ invariant-loop-block g l = record {
   calm : g.S.Store.faults l.store ≡ g.S.Store.faults l.fn.store;
   walked : IsWalked l.sup l.walk;
   come :
-      IsCome (told_image (g.S.Store.state l.fn.store)) (through (block_names l.sup l.directory) l.fn.walk l.blocks) l.fn.looked.items
-      (through (block_names l.sup l.directory) l.walk (drop l.block-index l.blocks)) l.looked.items;
-  kept : KeptWithin (l.sup.at + l.sup.len) l.fn.looked.items l.looked.items;
+      IsCome (told_image (g.S.Store.state l.fn.store)) (through (block_names l.sup l.directory) l.fn.walk l.blocks) l.fn.seen.looked.items
+      (through (block_names l.sup l.directory) l.walk (drop l.block-index l.blocks)) l.seen.looked.items;
+  kept : KeptWithin (l.sup.at + l.sup.len) l.fn.seen.looked.items l.seen.looked.items;
+  inodes : IsBlockOf (told_image (g.S.Store.state l.store)) l.seen.inodes;
 }

@@ -13,7 +13,7 @@ size_place-requires g c = named_stands c.args.sup.now c.args.directory.now c.dir
 
 pub returns-then-inode-ne0-clause-reads : goal.returns-then-inode-ne0-clause-reads
 returns-then-inode-ne0-clause-reads g c =
-    not_whole (told_image (g.S.Store.state c.args.store.now)) c.args.sup.now c.args.walk c.args.directory.now c.args.looked.now.items c.directory.inside.inode _ _
+    not_whole (told_image (g.S.Store.state c.args.store.now)) c.args.sup.now c.args.walk c.args.directory.now c.args.seen.now.looked.items c.directory.inside.inode _ _
     (ap (λ name. name.inode) c.directory.view_is) c.if-inode-ne0.true c.size_place.ensures
 
 pub content_blocks-requires-clause-stands : goal.content_blocks-requires-clause-stands
@@ -23,7 +23,7 @@ content_blocks-requires-clause-stands g c =
 
 pub returns-in_err-laid-clause-reads : goal.returns-in_err-laid-clause-reads
 returns-in_err-laid-clause-reads g c =
-    laid_stops (told_image (g.S.Store.state c.args.store.now)) c.args.sup.now c.args.walk c.args.directory.now c.args.looked.now.items c.directory.inside.inode c.walk.inside.runs
+    laid_stops (told_image (g.S.Store.state c.args.store.now)) c.args.sup.now c.args.walk c.args.directory.now c.args.seen.now.looked.items c.directory.inside.inode c.walk.inside.runs
     (ap (λ name. name.inode) c.directory.view_is) (ap (λ walk. walk.runs) c.walk.view_is) c.if-inode-ne0.false c.content_blocks.new.looked.items c.from_residual.result c.in_err-laid.field-0.0
     c.from_residual.ensures.0 c.from_residual.ensures.1 c.in_err-laid.ensures.reads
 
@@ -35,7 +35,7 @@ blocks_names-requires-clause-short g c = size_short c.args.sup.now c.args.direct
 
 pub returns-in_err-blocks-clause-reads : goal.returns-in_err-blocks-clause-reads
 returns-in_err-blocks-clause-reads g c =
-    blocks_stop (told_image (g.S.Store.state c.args.store.now)) c.args.sup.now c.args.walk c.args.directory.now c.args.looked.now.items c.directory.inside.inode c.walk.inside.runs
+    blocks_stop (told_image (g.S.Store.state c.args.store.now)) c.args.sup.now c.args.walk c.args.directory.now c.args.seen.now.looked.items c.directory.inside.inode c.walk.inside.runs
     (ap (λ name. name.inode) c.directory.view_is) (ap (λ walk. walk.runs) c.walk.view_is) c.if-inode-ne0.false c.content_blocks.new.looked.items c.in_ok-laid.laid c.deref.result.now
     (c.deref.ensures.value ∙ ap (λ laid. laid.pieces) c.laid.view_is) c.in_ok-laid.ensures.reads
     c.from_residual-in_err-blocks.result c.in_err-blocks.field-0.0 c.from_residual-in_err-blocks.ensures.0 c.from_residual-in_err-blocks.ensures.1 c.in_err-blocks.ensures.blocks
@@ -43,7 +43,7 @@ returns-in_err-blocks-clause-reads g c =
 pub blocks_names-requires-clause-lie : goal.blocks_names-requires-clause-lie
 blocks_names-requires-clause-lie g c =
     listed_lie (told_image (g.S.Store.state c.args.store.now)) (told_image (g.S.Store.state c.content_blocks.new.store)) c.args.sup.now c.args.directory.now.inode c.directory.inside.inode c.walk.inside.runs
-    c.args.looked.now.items c.content_blocks.new.looked.items c.in_ok-laid.laid c.deref.result.now c.in_ok-blocks.blocks c.items.result.now
+    c.args.seen.now.looked.items c.content_blocks.new.looked.items c.in_ok-laid.laid c.deref.result.now c.in_ok-blocks.blocks c.items.result.now
     (ap told_image c.in_ok-laid.ensures.same) (ap (λ name. name.inode) c.directory.view_is) (c.deref.ensures.value ∙ ap (λ laid. laid.pieces) c.laid.view_is) c.items.ensures
     c.requires.sound c.requires.named.inode.sound c.pointer_rows.ensures.direct c.pointer_rows.ensures.indirect c.in_ok-laid.ensures.reads c.in_ok-laid.ensures.within c.in_ok-blocks.ensures.placed
 
@@ -51,14 +51,14 @@ pub returns-clause-reads : goal.returns-clause-reads
 returns-clause-reads g c =
     let counts = ap (λ laid. runs_of laid) c.laid.view_is in
     let pieces = ap length c.deref.ensures.value in
-    blocks_go (told_image (g.S.Store.state c.args.store.now)) c.args.sup.now c.args.walk c.args.directory.now c.args.looked.now.items c.directory.inside.inode c.walk.inside.runs
+    blocks_go (told_image (g.S.Store.state c.args.store.now)) c.args.sup.now c.args.walk c.args.directory.now c.args.seen.now.looked.items c.directory.inside.inode c.walk.inside.runs
     (ap (λ name. name.inode) c.directory.view_is) (ap (λ walk. walk.runs) c.walk.view_is) c.if-inode-ne0.false c.content_blocks.new.looked.items c.in_ok-laid.laid c.deref.result.now
     (c.deref.ensures.value ∙ ap (λ laid. laid.pieces) c.laid.view_is) c.in_ok-laid.ensures.reads
-    (told_image (g.S.Store.state c.content_blocks.new.store)) c.in_ok-blocks.blocks c.items.result.now c.with_runs-walk.result c.blocks_names.new.looked.items c.blocks_names.result
+    (told_image (g.S.Store.state c.content_blocks.new.store)) c.in_ok-blocks.blocks c.items.result.now c.with_runs-walk.result c.blocks_names.new.seen.looked.items c.blocks_names.result
     (ap told_image c.in_ok-laid.ensures.same) c.items.ensures
     (c.with_runs-walk.ensures ∙ ap (λ n. with_runs c.args.walk n) (omega (arith, counts, pieces, c.deref.ensures.len, c.len.ensures)))
     c.in_ok-blocks.ensures.blocks c.blocks_names.ensures.reads
 
 pub returns-clause-kept : goal.returns-clause-kept
 returns-clause-kept g c =
-    kept_then c.blocks_names.result (c.args.sup.now.at + c.args.sup.now.len) c.args.looked.now.items c.content_blocks.new.looked.items c.blocks_names.new.looked.items c.in_ok-laid.ensures.kept_within c.blocks_names.ensures.kept
+    kept_then c.blocks_names.result (c.args.sup.now.at + c.args.sup.now.len) c.args.seen.now.looked.items c.content_blocks.new.looked.items c.blocks_names.new.seen.looked.items c.in_ok-laid.ensures.kept_within c.blocks_names.ensures.kept

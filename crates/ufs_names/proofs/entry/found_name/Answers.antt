@@ -10,7 +10,7 @@ pub returns-in_err-name-clause-settles : goal.returns-in_err-name-clause-settles
 returns-in_err-name-clause-settles c =
     let new : (is_directory c.args.inode && is_known c.args.entry.now.inode c.args.walk.names) ≡ false =
     elim c.else-is_directory.branch [ else-is_directory-via-then-is_directory+else-knows w ↦ grind (arith, common_steps) | else-is_directory-via-else-is_directory w ↦ grind (arith, common_steps) ] in
-    found_too_long c.args.sup.now c.args.directory.now c.args.block.now c.args.walk c.args.entry.now c.args.inode c.from_residual.result c.in_err-name.field-0.0 c.from_residual.ensures.0 c.from_residual.ensures.1 new
+    found_too_long c.args.sup.now c.args.place.now.directory.now c.args.place.now.block.now c.args.walk c.args.entry.now c.args.inode c.from_residual.result c.in_err-name.field-0.0 c.from_residual.ensures.0 c.from_residual.ensures.1 new
     c.in_err-name.ensures.limited
 
 pub returns-clause-walked : goal.returns-clause-walked

@@ -7,6 +7,6 @@ use Rattle.ufs_names.proofs.entry.name_by.Goals as goal
 
 pub returns-in_err-path-clause-limited : goal.returns-in_err-path-clause-limited
 returns-in_err-path-clause-limited c =
-    name_too_long (name_by c.args.sup.now c.args.directory.now c.args.block.now c.args.entry.now c.args.inode) _ c.from_residual.result c.in_err-path.field-0.0 c.from_residual.ensures.0 c.from_residual.ensures.1
-    (ap (λ directory. joined_path directory.path (bytes_text c.entry.inside.name.now)) c.directory.view_is ∙ ap (λ entry. joined_path c.args.directory.now.path (bytes_text entry.name)) c.entry.view_is)
+    name_too_long (name_by c.args.sup.now c.args.place.now.directory.now c.args.place.now.block.now c.args.entry.now c.args.inode) _ c.from_residual.result c.in_err-path.field-0.0 c.from_residual.ensures.0 c.from_residual.ensures.1
+    (ap (λ directory. joined_path directory.path (bytes_text c.entry.inside.name.now)) c.directory.view_is ∙ ap (λ entry. joined_path c.args.place.now.directory.now.path (bytes_text entry.name)) c.entry.view_is)
     c.in_err-path.ensures.joined

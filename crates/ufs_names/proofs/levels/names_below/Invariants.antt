@@ -3,6 +3,7 @@ use Rattle.std.specs.List.{All}
 use Rattle.disk_defs.specs.Disk.{told_image}
 use Rattle.image_defs.specs.Standing.{IsCome}
 use Rattle.ufs_volume_defs.specs.Names.{names_below}
+use Rattle.ufs_inode.specs.Block.{IsBlockOf}
 use Rattle.ufs_names.specs.Walked.{IsNamed, IsWalked, KeptWithin}
 use Rattle.ufs_names.proofs.levels.names_below.Given as goal
 
@@ -14,7 +15,8 @@ invariant-loop-depth g l = record {
   walked : IsWalked l.sup l.walk;
   named : All (IsNamed l.sup) l.directories;
   come :
-      IsCome (told_image (g.S.Store.state l.fn.store)) (names_below 1025 l.sup l.fn.walk l.fn.directories) l.fn.looked.items
-      (names_below (1025 - l._depth) l.sup l.walk l.directories) l.looked.items;
-  kept : KeptWithin (l.sup.at + l.sup.len) l.fn.looked.items l.looked.items;
+      IsCome (told_image (g.S.Store.state l.fn.store)) (names_below 1025 l.sup l.fn.walk l.fn.directories) l.fn.seen.looked.items
+      (names_below (1025 - l._depth) l.sup l.walk l.directories) l.seen.looked.items;
+  kept : KeptWithin (l.sup.at + l.sup.len) l.fn.seen.looked.items l.seen.looked.items;
+  inodes : IsBlockOf (told_image (g.S.Store.state l.store)) l.seen.inodes;
 }
