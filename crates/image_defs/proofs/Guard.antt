@@ -4,12 +4,11 @@ use Rattle.std.proofs.Common.{ap, sym, ◌∙◌, arith, ⊎_elim}
 use Rattle.std.proofs.lemmas.Bool.{cases_lt}
 use Rattle.std.proofs.lemmas.Option.{slice_get_past}
 use Rattle.range_defs.specs.declared.Range.{Range}
-use Rattle.range_defs.specs.Places.{covers, IsRangeList, longest_ranges}
-use Rattle.range_defs.proofs.RangeLaws.{EndsBy, covers-past, longest_ranges_covers, ends_where_covered, same_as_longest_ranges}
+use Rattle.range_defs.specs.Places.{covers, longest_ranges}
+use Rattle.range_defs.proofs.RangeLaws.{longest_ranges_covers}
 use Rattle.image_defs.specs.Ask.{Ask, result_of, visits}
 use Rattle.image_defs.specs.Agreement.{AgreeOn}
 use Rattle.image_defs.proofs.Agreement.{result_agree, visits_agree}
-use Rattle.image_defs.specs.Looks.{LooksAt}
 
 -- the bytes of an image that a program looks at, as the longest ranges
 unfoldable pub looked_at : {E X : Type 0} → List ℕ → Ask E X → List Range
@@ -40,11 +39,3 @@ unfolding looked_at
 looked_at_guarded a b ask agree =
     ap (λ ranges. longest_ranges (covers ranges) 0 (length b)) (visits_agree ask a b (looked_at-agree a b ask agree))
     ∙ ap (λ len. longest_ranges (covers (visits a ask)) 0 len) (sym agree.same_length)
-
--- where a program looks only inside the image, the canonical list of its ranges is the list of the bytes that it looks at
-pub list-looked_at : {E X : Type 0} (image : List ℕ) (ask : Ask E X) (ranges : List Range) → IsRangeList ranges
-    → ((byte : ℕ) → covers ranges byte ≡ covers (visits image ask) byte) → LooksAt (EndsBy (length image)) image ask → ranges ≡ looked_at image ask
-unfolding looked_at
-list-looked_at image ask ranges kept same looks =
-    same_as_longest_ranges (covers (visits image ask)) (length image) ranges kept same
-    (ends_where_covered ranges (length image) kept (λ byte past. same byte ∙ covers-past (length image) byte (visits image ask) looks.all past))

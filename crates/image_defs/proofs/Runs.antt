@@ -46,11 +46,6 @@ visits_bind_quiet image (Look at len more) next quiet = ap (λ ranges. record { 
 pub visits_bind_ok : {E X Y : Type 0} (image : List ℕ) (ask : Ask E X) (next : X → Ask E Y) (x : X) → result_of image ask ≡ Ok x → visits image (ask >>= next) ≡ visits image ask ++ visits image (next x)
 visits_bind_ok image ask next x is = visits_bind image ask next ∙ ap (λ r. visits image ask ++ visits_next image r next) is
 
--- a check gives its fault exactly where its test is false
-abbrev pub checked : {E : Type 0} → Bool → E → Result (Unit {0}) E
-checked true fault = Ok tt
-checked false fault = Err fault
-
 -- a check looks at nothing
 pub visits_check : {E : Type 0} (image : List ℕ) (test : Bool) (fault : E) → visits image (check test fault) ≡ []
 visits_check image true fault = refl
@@ -62,11 +57,6 @@ result_check_true image test fault next is = ap (λ t. result_of image (check t 
 
 pub result_check_false : {E Y : Type 0} (image : List ℕ) (test : Bool) (fault : E) (next : Unit {0} → Ask E Y) → test ≡ false → result_of image (check test fault >>= next) ≡ Err fault
 result_check_false image test fault next is = ap (λ t. result_of image (check t fault >>= next)) is
-
--- a check in front of a program that looks at nothing
-pub visits_check_quiet : {E Y : Type 0} (image : List ℕ) (test : Bool) (fault : E) (next : Unit {0} → Ask E Y) → visits image (next tt) ≡ [] → visits image (check test fault >>= next) ≡ []
-visits_check_quiet image true fault next quiet = quiet
-visits_check_quiet image false fault next quiet = refl
 
 -- behind a check that holds
 pub visits_check_true : {E Y : Type 0} (image : List ℕ) (test : Bool) (fault : E) (next : Unit {0} → Ask E Y) → test ≡ true → visits image (check test fault >>= next) ≡ visits image (next tt)
@@ -88,12 +78,6 @@ result_bind_done image (Done x) change = refl
 result_bind_done image (Stop e) change = refl
 result_bind_done image (Look at len more) change = result_bind_done image (more (part image at len)) change
 
--- and it looks at the same ranges
-pub visits_bind_done : {E X Y : Type 0} (image : List ℕ) (ask : Ask E X) (change : X → Y) → visits image (ask >>= (λ x. Done (change x))) ≡ visits image ask
-visits_bind_done image (Done x) change = refl
-visits_bind_done image (Stop e) change = refl
-visits_bind_done image (Look at len more) change = ap (λ ranges. record { at = at; len = len } ∷ ranges) (visits_bind_done image (more (part image at len)) change)
-
 result_next_each : {E X Y : Type 0} (image : List ℕ) (ask : X → Ask E Y) (xs : List X) (first : Result Y E) → result_next image first (λ y. each ask xs >>= (λ ys. Done (y ∷ ys))) ≡ in_front_of first (result_of image (each ask xs))
 result_next_each image ask xs (Ok y) = result_bind_done image (each ask xs) (λ ys. y ∷ ys)
 result_next_each image ask xs (Err e) = refl
@@ -105,13 +89,3 @@ result_each image ask (x ∷ xs) =
     result_bind image (ask x) (λ y. each ask xs >>= (λ ys. Done (y ∷ ys)))
     ∙ result_next_each image ask xs (result_of image (ask x))
     ∙ ap (λ rest. in_front_of (result_of image (ask x)) rest) (result_each image ask xs)
-
-visits_next_each : {E X Y : Type 0} (image : List ℕ) (ask : X → Ask E Y) (xs : List X) (first : Result Y E) → visits_next image first (λ y. each ask xs >>= (λ ys. Done (y ∷ ys))) ≡ visits_next image first (λ y. each ask xs)
-visits_next_each image ask xs (Ok y) = visits_bind_done image (each ask xs) (λ ys. y ∷ ys)
-visits_next_each image ask xs (Err e) = refl
-
--- the programs for each item look at what the first looks at, and then, where it gives a value, at what the others do
-pub visits_each : {E X Y : Type 0} (image : List ℕ) (ask : X → Ask E Y) (x : X) (xs : List X) → visits image (each ask (x ∷ xs)) ≡ visits image (ask x) ++ visits_next image (result_of image (ask x)) (λ y. each ask xs)
-visits_each image ask x xs =
-    visits_bind image (ask x) (λ y. each ask xs >>= (λ ys. Done (y ∷ ys)))
-    ∙ ap (λ rest. visits image (ask x) ++ rest) (visits_next_each image ask xs (result_of image (ask x)))

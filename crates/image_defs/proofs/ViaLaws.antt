@@ -1,5 +1,5 @@
 -- Laws behind ViaLaws: a program on bytes that stand elsewhere gives on the image what it gives on those bytes, and looks at their places alone.
-use Rattle.std.specs.Prelude.{◌≡◌, ℕ, zero, suc, ◌+◌, ◌-◌, ◌<◌, ◌≤◌, min, Bool, true, false, ◌||◌, IsTrue, Option, Some, None, Result, Ok, Err, List, [], ◌∷◌, ◌++◌, length, take, drop, replicate, get_or, slice_index, slice_get, refl}
+use Rattle.std.specs.Prelude.{◌≡◌, ℕ, zero, suc, ◌+◌, ◌-◌, ◌<◌, ◌≤◌, min, Bool, true, false, ◌||◌, IsTrue, Option, Some, None, Result, Ok, Err, List, [], ◌∷◌, length, take, drop, replicate, get_or, slice_index, slice_get, refl}
 use Rattle.std.specs.List.{All}
 use Rattle.std.proofs.Common.{ap, sym, ◌∙◌, subst, arith}
 use Rattle.std.proofs.lemmas.Bool.Decides.{nat_tests}
@@ -152,11 +152,6 @@ looks_with_faults P image fault (Look at len next) looks =
     looks_look P image at len (λ bytes. with_faults fault (next bytes)) (All-head P (record { at = at; len = len }) (visits image (next (part image at len))) looks.all)
     (looks_with_faults P image fault (next (part image at len)) (record { all = All-tail P (record { at = at; len = len }) (visits image (next (part image at len))) looks.all }))
 
-pub visits_with_faults : {E F X : Type 0} (image : List ℕ) (fault : E → F) (ask : Ask E X) → visits image (with_faults fault ask) ≡ visits image ask
-visits_with_faults image fault (Done x) = refl
-visits_with_faults image fault (Stop e) = refl
-visits_with_faults image fault (Look at len next) = ap (λ ranges. record { at = at; len = len } ∷ ranges) (visits_with_faults image fault (next (part image at len)))
-
 in_range_bounds : (range : Range) (byte : ℕ) → IsTrue (in_range range byte) → (range.at ≤ byte) × (byte < range.at + range.len)
 in_range_bounds range byte inside = (grind (arith, nat_tests), grind (arith, nat_tests))
 
@@ -204,17 +199,6 @@ via_looks_law E X image place size ask byte covered =
     covered_lies Q (visits image (via place size ask)) byte (looks_via (LiesIn Q) image place size ask placed).all covered
 
 -- ---- what a reader reads piece by piece
-
-pub seen_append : (image : List ℕ) (place : ℕ → Option ℕ) (at first more : ℕ) → seen_from image place at (first + more) ≡ seen_from image place at first ++ seen_from image place (at + first) more
-unfolding seen_from
-seen_append image place at zero more =
-    let all : 0 + more ≡ more = omega arith in
-    let same : at + 0 ≡ at = omega arith in
-    rw (all, same) refl
-seen_append image place at (suc first) more =
-    let next : suc first + more ≡ suc (first + more) = omega arith in
-    let behind : at + suc first ≡ suc at + first = omega arith in
-    rw (next, behind) (ap (λ rest. byte_of image (place at) ∷ rest) (seen_append image place (suc at) first more))
 
 -- bytes that stand one behind another are a part of the image
 pub seen_run : (image : List ℕ) (place : ℕ → Option ℕ) (at count from : ℕ) → ((i : ℕ) → i < count → place (at + i) ≡ Some (from + i)) → from + count ≤ length image

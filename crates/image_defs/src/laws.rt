@@ -1,7 +1,6 @@
 //! The laws of programs that ask: the contract of each of these functions is a law, and its body is empty.
 
 ghost use Rattle.image_defs.specs.Agreement.{FootprintLaw};
-ghost use Rattle.image_defs.specs.Standing.{StepsLaw};
 ghost use Rattle.image_defs.specs.ViaLaws.{SetLaw, ViaLaw, ViaLooksLaw};
 
 /// The law of the footprint. A program that asks an image gives the same value or fault on every image
@@ -24,11 +23,4 @@ pub fn elsewhere_gives_the_same<E, X>()
 /// It looks at no byte of the image but the places of those at which the program looks.
 pub fn elsewhere_looks_at_places<E, X>()
     ensures { ViaLooksLaw E X }
-{}
-
-/// The law of steps. A reader that stands for a program goes through it step by step: where a step has come to its value or to
-/// its refusal, the whole has come to what follows, after the ranges that the step looked at.
-#[tactic(auto, using(crate::proofs::Standing::steps_law))]
-pub fn steps_are_the_program<E, X, Y>()
-    ensures { StepsLaw E X Y }
 {}
