@@ -1,7 +1,7 @@
 -- Laws of what a disk holds after changes.
-use Rattle.std.proofs.Common.{◌≡◌, ℕ, ◌+◌, ◌≤◌, inl, max, Option, Some, None, List, ◌++◌, length, take, drop, refl, sym, ap, subst, arith, length-append, length-take, length-drop}
+use Rattle.std.proofs.Common.{◌≡◌, ℕ, ◌+◌, ◌≤◌, inl, max, Option, Some, None, List, ◌++◌, length, take, drop, refl, ap, arith, length-append, length-take, length-drop}
 use Rattle.disk_defs.specs.Story.{Change, Write, Cut, Sync, Made, Story, overwritten, held_by, and_then}
-use Rattle.disk_defs.specs.Disk.{State, MayChange, state_told, state_after, IsToldAfterFailed, IsAfterFailed}
+use Rattle.disk_defs.specs.Disk.{State, MayChange, state_told, state_after, IsToldAfterFailed}
 use Rattle.disk_defs.specs.declared.Area.TheVariants.{Image, Journal}
 
 -- an area is as long as a write takes
@@ -36,8 +36,3 @@ state_told_after Sync story may = refl
 told-unchanged : (change : Change) (told : Option Story) → IsToldAfterFailed change told told
 told-unchanged change None = refl
 told-unchanged change (Some story) = inl refl
-
--- a change that failed may have left all as it was
-pub failed-unchanged : (change : Change) (before now : State) → now ≡ before → IsAfterFailed change before now
-failed-unchanged change before now same =
-    subst (λ state. IsAfterFailed change before state) (sym same) ((refl, omega arith, omega arith), told-unchanged change before.told)

@@ -102,9 +102,6 @@ pub alone_same : (mft : Mft) → SamePlaces (first_slot_alone mft.boot) mft 0
 unfolding slot_place
 alone_same mft = record { boot = refl; places = λ i below. refl }
 
-pub itself_same : (mft : Mft) (number : ℕ) → SamePlaces mft mft number
-itself_same mft number = record { boot = refl; places = λ i below. refl }
-
 -- ---- what segments leave
 
 abbrev pub HasBoot : Boot → Option Mft → Type 0

@@ -27,9 +27,6 @@ pub record AreFilled (old bytes : List ℕ) (from step strides : ℕ) : Type 0 w
   pub kept : (i : ℕ) → (i % 512 < 510) ⊎ (strides ≤ i / 512) → get_or bytes i 0 ≡ get_or old i 0
   pub done : (i : ℕ) → 510 ≤ i % 512 → i / 512 < strides → get_or bytes i 0 ≡ get_or old (from + step * (i / 512) + (i % 512 - 510)) 0
 
-pub none_filled : (bytes : List ℕ) (from step : ℕ) → AreFilled bytes bytes from step 0
-none_filled bytes from step = record { same_length = refl; kept = λ i either. refl; done = λ i last below. absurd (omega arith) }
-
 -- two bytes that are written at the end of a stride
 written_end : (old bytes : List ℕ) (from step strides : ℕ) → AreFilled old bytes from step strides → 512 * strides + 511 < length bytes
     → get_or bytes (from + step * strides) 0 ≡ get_or old (from + step * strides) 0 → get_or bytes (from + step * strides + 1) 0 ≡ get_or old (from + step * strides + 1) 0

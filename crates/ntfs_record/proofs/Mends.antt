@@ -324,12 +324,6 @@ status_refuses : {X : Type 0} (result : Result X RecordFault) (fault : RecordFau
 status_refuses (Ok x) fault is = absurd cc
 status_refuses (Err other) fault is = let same : other ≡ fault = cc in ap Err same
 
-pub result_refuses : (bytes : List ℕ) (fault : RecordFault) → record_check bytes ≡ Err fault → result_of bytes (record_of (length bytes)) ≡ Err fault
-result_refuses bytes fault is = status_refuses (result_of bytes (record_of (length bytes))) fault is
-
-pub result_gives : (bytes : List ℕ) → record_check bytes ≡ passed → IsOk (result_of bytes (record_of (length bytes)))
-result_gives bytes is = status_ok (result_of bytes (record_of (length bytes))) is
-
 pub found_is_mended : (bytes now : List ℕ) → IsRecordSize (length bytes) → record_check bytes ≡ passed → now ≡ mended bytes → IsMended now
 found_is_mended bytes now size is now_is =
     let both = both_pass (stored_check bytes) (attributes_check (mended bytes)) (sym (record_checks bytes (omega (arith, (size_bounds (length bytes) size).0))) ∙ is) in

@@ -5,7 +5,7 @@ use Rattle.ntfs_defs.specs.declared.runs.Run.{Run}
 use Rattle.ntfs_defs.specs.declared.runs.WrittenRun.{WrittenRun}
 use Rattle.ntfs_defs.specs.WrittenRuns.{run_at}
 use Rattle.ntfs_defs.specs.DecodedRuns.{base_after, checked_run}
-use Rattle.ntfs_defs.proofs.ListLaws.{IsDecodedTo, decoding_starts, decoding_goes_on}
+use Rattle.ntfs_defs.proofs.ListLaws.{IsDecodedTo, decoding_goes_on}
 use Rattle.ntfs_defs.proofs.RunLaws.{checked_run-ok}
 
 -- what the loop keeps: its runs, and those from its place on, are all, and its numbers are within their limits
@@ -13,13 +13,6 @@ pub record IsWalked (clusters : ℕ) (bytes : List ℕ) (runs : List Run) (base 
   pub decoded : IsDecodedTo clusters bytes runs base total at
   pub base_inside : base ≤ 2 ^ 63
   pub total_fits : total ≤ 2 ^ 48
-
-pub walk_starts : (clusters : ℕ) (bytes : List ℕ) → IsWalked clusters bytes [] 0 0 0
-walk_starts clusters bytes = record {
-  decoded = decoding_starts clusters bytes;
-  base_inside = omega arith;
-  total_fits = omega arith;
-}
 
 unwrap_or-base : (base : ℕ) (first : Option ℕ) → base_after base first ≡ unwrap_or first base
 unwrap_or-base base None = refl

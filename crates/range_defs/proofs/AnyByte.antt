@@ -6,7 +6,7 @@ use Rattle.range_defs.proofs.LeastLaws.{same_as_least_below}
 use Rattle.range_defs.specs.AnyByte.{TellsIfAny}
 
 -- a byte that passes has a least one below each greater number
-some_below : (test : ℕ → Bool) (end byte : ℕ) → test byte ≡ true → byte < end → is_some (least_below test end) ≡ true
+pub some_below : (test : ℕ → Bool) (end byte : ℕ) → test byte ≡ true → byte < end → is_some (least_below test end) ≡ true
 unfolding least_below
 some_below test zero byte passes low = absurd (omega arith)
 some_below test (suc last) byte passes low =

@@ -1,10 +1,11 @@
 -- A filled image has the same tree: no byte of the guard is planned, so that the two agree there. The same holds of the bytes of a
 -- file that touches no planned byte.
-use Rattle.std.proofs.Common.{◌≡◌, ℕ, zero, suc, ◌<◌, Bool, true, false, ◌&&◌, Some, None, Option, is_some, cond, List, refl, ap, subst, sym, ◌∙◌, ⊎_elim, arith}
+use Rattle.std.proofs.Common.{◌≡◌, ℕ, Bool, true, false, ◌&&◌, Some, None, Option, is_some, List, refl, ap, sym, ◌∙◌, ⊎_elim}
 use Rattle.std.proofs.lemmas.Bool.{cases_lt, false≢true}
 use Rattle.range_defs.specs.declared.Range.{Range}
-use Rattle.range_defs.specs.Places.{covers, least_below, otherwise}
+use Rattle.range_defs.specs.Places.{covers, least_below}
 use Rattle.range_defs.specs.Claims.{painted, longest_claims}
+use Rattle.range_defs.proofs.AnyByte.{some_below}
 use Rattle.range_defs.proofs.ClaimLaws.{painted-past, longest_claims_claim, longest_claims_ends}
 use Rattle.image_defs.specs.Agreement.{AgreeOn}
 use Rattle.rx_tree.specs.TreeValue.{TreeValue}
@@ -18,20 +19,6 @@ use Rattle.tree_defs.proofs.ImageLaws.{tree-guard}
 use Rattle.redacted_defs.specs.SameTree.{SameTreeLaw, SameFilesLaw}
 
 -- ---- no byte of the guard is planned
-
--- a byte that passes has a least one below each greater number
-some_below : (test : ℕ → Bool) (end byte : ℕ) → test byte ≡ true → byte < end → is_some (least_below test end) ≡ true
-unfolding least_below
-some_below test zero byte passes low = absurd (omega arith)
-some_below test (suc last) byte passes low =
-    ⊎_elim
-    (λ below. elim (least_below test last) as (λ r. is_some r ≡ true → is_some (otherwise r (cond (test last) (Some last) None)) ≡ true)
-    [ Some least ↦ λ some. refl | None ↦ λ some. absurd (false≢true some) ] (some_below test last byte passes below))
-    (λ above. let at : byte ≡ last = omega arith in
-    let here : test last ≡ true = subst (λ (b : ℕ). test b ≡ true) at passes in
-    elim (least_below test last) as (λ r. is_some (otherwise r (cond (test last) (Some last) None)) ≡ true)
-    [ Some least ↦ refl | None ↦ ap (λ t. is_some (cond t (Some last) None)) here ])
-    (cases_lt byte last)
 
 none_of : (paint : Option (ℕ × ℕ)) (planned guarded : Bool) (least : Option ℕ) → is_some paint ≡ planned → guarded ≡ true → least ≡ None
     → (planned && guarded ≡ true → is_some least ≡ true) → paint ≡ None

@@ -1,10 +1,10 @@
 -- Where a class closes.
-use Rattle.std.proofs.Common.{◌≡◌, ℕ, ◌+◌, ◌-◌, true, false, Option, Some, None, drop, take, length, List, [], ◌∷◌, ◌++◌, refl, sym, ◌∙◌, ap, append_assoc, append-nil, length-append, subst, arith}
+use Rattle.std.proofs.Common.{◌≡◌, ℕ, ◌+◌, ◌-◌, true, false, Option, Some, None, drop, take, length, List, [], ◌∷◌, ◌++◌, refl, sym, ◌∙◌, ap, append_assoc, append-nil, length-append, arith}
 use Rattle.std.specs.Prelude.{encode_utf8, encode_utf8_all, option_map}
-use Rattle.std.proofs.lemmas.Str.{encodes-append, chars_from_encodes, IsCharBoundary-at_seam}
+use Rattle.std.proofs.lemmas.Str.{encodes-append, chars_from_encodes}
 use Rattle.std.proofs.lemmas.Bool.{ne_eqb}
 use Rattle.std.proofs.lemmas.List.{drop_at, take_at, drop-drop}
-use Rattle.std.specs.Str.{chars, IsUtf8, IsCharBoundary}
+use Rattle.std.specs.Str.{chars, IsUtf8}
 use Rattle.rx_pattern.specs.Reading.{before_closing, inside_of, is_negated, behind_mark, class_width}
 
 -- in front of what is left of a text stand these characters of a class that isn't closed there
@@ -64,12 +64,6 @@ IsInside-front text rest inside so_far utf8 is_front =
     let front : length (encode_utf8_all so_far.front) ≡ length text - length rest = omega arith in
     chars_from_encodes so_far.front inside utf8
     (sym (is_front ∙ ap (take (length text - length rest)) so_far.whole ∙ take_at (encode_utf8_all so_far.front) rest (length text - length rest) front))
-
-pub IsInside-boundary : (text rest : List ℕ) → IsInside text rest → IsUtf8 rest → IsCharBoundary text (length text - length rest)
-IsInside-boundary text rest so_far utf8 =
-    let parts = ap length so_far.whole ∙ length-append (encode_utf8_all so_far.front) rest in
-    let front : length (encode_utf8_all so_far.front) ≡ length text - length rest = omega arith in
-    subst (IsCharBoundary text) front (IsCharBoundary-at_seam text (encode_utf8_all so_far.front) rest so_far.whole utf8)
 
 -- a text that ends in front of a `]` has no class
 pub inside_of-unclosed : (text rest : List ℕ) → IsInside text rest → chars rest ≡ [] → inside_of (chars text) ≡ None

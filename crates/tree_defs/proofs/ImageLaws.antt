@@ -55,6 +55,3 @@ module _ (image : List ℕ) (tree : TreeValue) (is : image_tree image ≡ Ok tre
   pub tree-guard : tree.guard ≡ image_guard image
   unfolding image_guard
   tree-guard = facts.0
-
-  pub tree-length : tree.image_len ≡ length image
-  tree-length = facts.1
