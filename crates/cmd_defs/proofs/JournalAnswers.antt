@@ -9,7 +9,7 @@ use Rattle.rx_ranges.specs.declared.plan.Plan.{Plan}
 use Rattle.cmd_defs.specs.declared.status.JournalRefusal.TheVariants.{NotOpen, Bad, OtherLength}
 use Rattle.cmd_defs.specs.declared.status.PlanRefusal.TheVariants.{MeetsGuard}
 use Rattle.cmd_defs.specs.declared.status.Status.{Status}
-use Rattle.cmd_defs.specs.declared.status.Status.TheVariants.{Done, Usage, NotRecognised, Damaged, Unsupported, PlanRefused, JournalOpen, JournalRefused, DeviceFault, SourceFault, SinkFault, Limit, NoMemory, NotBuilt}
+use Rattle.cmd_defs.specs.declared.status.Status.TheVariants.{Done, NotRecognised, Damaged, Unsupported, PlanRefused, JournalOpen, JournalRefused, DeviceFault, SourceFault, SinkFault, Limit, NoMemory, NotBuilt}
 use Rattle.cmd_defs.specs.Outcome.{IfTextAndHeld}
 use Rattle.cmd_defs.specs.JournalFacts.{HoldsPlan}
 use Rattle.cmd_defs.specs.PlanCommand.{PlanAnswers}
@@ -49,52 +49,20 @@ report_answer journal (JournalRefused NotOpen) (JournalRefused (Bad at)) x y = a
 report_answer journal (JournalRefused (Bad at)) Done x y = absurd (good_or_bad journal y.0 y.1 y.2 at y.3 x.1)
 report_answer journal (JournalRefused (Bad at)) (JournalRefused NotOpen) x y = absurd (y x.0)
 report_answer journal (JournalRefused (Bad at)) (JournalRefused (Bad other)) x y = one_place journal at other x.1 y.1
-report_answer journal a (JournalRefused (OtherLength kept found)) x y = absurd y
-report_answer journal a Usage x y = absurd y
-report_answer journal a NotRecognised x y = absurd y
-report_answer journal a (Damaged sort place) x y = absurd y
-report_answer journal a (Unsupported what place) x y = absurd y
-report_answer journal a (PlanRefused refusal) x y = absurd y
-report_answer journal a JournalOpen x y = absurd y
-report_answer journal a DeviceFault x y = absurd y
-report_answer journal a SourceFault x y = absurd y
-report_answer journal a SinkFault x y = absurd y
-report_answer journal a (Limit bound number) x y = absurd y
-report_answer journal a NoMemory x y = absurd y
-report_answer journal a NotBuilt x y = absurd y
-report_answer journal (JournalRefused (OtherLength kept found)) b x y = absurd x
-report_answer journal Usage b x y = absurd x
-report_answer journal NotRecognised b x y = absurd x
-report_answer journal (Damaged sort place) b x y = absurd x
-report_answer journal (Unsupported what place) b x y = absurd x
-report_answer journal (PlanRefused refusal) b x y = absurd x
-report_answer journal JournalOpen b x y = absurd x
-report_answer journal DeviceFault b x y = absurd x
-report_answer journal SourceFault b x y = absurd x
-report_answer journal SinkFault b x y = absurd x
-report_answer journal (Limit bound number) b x y = absurd x
-report_answer journal NoMemory b x y = absurd x
-report_answer journal NotBuilt b x y = absurd x
+report_answer journal Done b x y = absurd y
+report_answer journal (JournalRefused NotOpen) b x y = absurd y
+report_answer journal (JournalRefused (Bad at)) b x y = absurd y
+report_answer journal a b x y = absurd x
 
 -- where nothing failed, a status that says so is the one answer, or memory ran out
 pub is_report_answer : (journal : List ℕ) (status : Status) (store out : Type 0) (W P : List ℕ → Type 0) → ReportSays status journal W P
     → (status ≡ DeviceFault → store) → (status ≡ SinkFault → out) → (answer : Status) → ReportAnswers answer journal → ¬ store → ¬ out → (status ≡ answer) ⊎ (status ≡ NoMemory)
 is_report_answer journal Done store out W P says device sink answer asked a b = inl (report_answer journal Done answer (says.0, says.1, says.2, says.3) asked)
 is_report_answer journal (JournalRefused NotOpen) store out W P says device sink answer asked a b = inl (report_answer journal (JournalRefused NotOpen) answer says asked)
-is_report_answer journal (JournalRefused (Bad at)) store out W P says device sink answer asked a b = inl (report_answer journal (JournalRefused (Bad at)) answer says asked)
-is_report_answer journal (JournalRefused (OtherLength kept found)) store out W P says device sink answer asked a b = absurd says
 is_report_answer journal DeviceFault store out W P says device sink answer asked a b = absurd (a (device refl))
 is_report_answer journal SinkFault store out W P says device sink answer asked a b = absurd (b (sink refl))
 is_report_answer journal NoMemory store out W P says device sink answer asked a b = inr refl
-is_report_answer journal Usage store out W P says device sink answer asked a b = absurd says
-is_report_answer journal NotRecognised store out W P says device sink answer asked a b = absurd says
-is_report_answer journal (Damaged sort place) store out W P says device sink answer asked a b = absurd says
-is_report_answer journal (Unsupported what place) store out W P says device sink answer asked a b = absurd says
-is_report_answer journal (PlanRefused refusal) store out W P says device sink answer asked a b = absurd says
-is_report_answer journal JournalOpen store out W P says device sink answer asked a b = absurd says
-is_report_answer journal SourceFault store out W P says device sink answer asked a b = absurd says
-is_report_answer journal (Limit bound number) store out W P says device sink answer asked a b = absurd says
-is_report_answer journal NotBuilt store out W P says device sink answer asked a b = absurd says
+is_report_answer journal status store out W P says device sink answer asked a b = inl (report_answer journal status answer says asked)
 
 -- ---- resume
 
@@ -132,49 +100,18 @@ resume_answer held (JournalRefused (OtherLength kept found)) Done x y = absurd (
 resume_answer held (JournalRefused (OtherLength kept found)) (JournalRefused NotOpen) x y = absurd (y x.3.is_open)
 resume_answer held (JournalRefused (OtherLength kept found)) (JournalRefused (Bad at)) x y = absurd (good_or_bad held.journal x.0 x.1 x.2 at x.3 y.1)
 resume_answer held (JournalRefused (OtherLength kept found)) (JournalRefused (OtherLength kept' found')) x y = one_other held kept found kept' found' x y
-resume_answer held a Usage x y = absurd y
-resume_answer held a NotRecognised x y = absurd y
-resume_answer held a (Damaged sort place) x y = absurd y
-resume_answer held a (Unsupported what place) x y = absurd y
-resume_answer held a (PlanRefused refusal) x y = absurd y
-resume_answer held a JournalOpen x y = absurd y
-resume_answer held a DeviceFault x y = absurd y
-resume_answer held a SourceFault x y = absurd y
-resume_answer held a SinkFault x y = absurd y
-resume_answer held a (Limit bound number) x y = absurd y
-resume_answer held a NoMemory x y = absurd y
-resume_answer held a NotBuilt x y = absurd y
-resume_answer held Usage b x y = absurd x
-resume_answer held NotRecognised b x y = absurd x
-resume_answer held (Damaged sort place) b x y = absurd x
-resume_answer held (Unsupported what place) b x y = absurd x
-resume_answer held (PlanRefused refusal) b x y = absurd x
-resume_answer held JournalOpen b x y = absurd x
-resume_answer held DeviceFault b x y = absurd x
-resume_answer held SourceFault b x y = absurd x
-resume_answer held SinkFault b x y = absurd x
-resume_answer held (Limit bound number) b x y = absurd x
-resume_answer held NoMemory b x y = absurd x
-resume_answer held NotBuilt b x y = absurd x
+resume_answer held Done b x y = absurd y
+resume_answer held (JournalRefused refusal) b x y = absurd y
+resume_answer held a b x y = absurd x
 
 pub is_resume_answer : (held : Held) (before now : State) (status : Status) (store out : Type 0) (W P : List ℕ → Type 0) → ResumeSays status held before now W P
     → (status ≡ DeviceFault → store) → (status ≡ SinkFault → out) → (answer : Status) → ResumeAnswers answer held → ¬ store → ¬ out → (status ≡ answer) ⊎ (status ≡ NoMemory)
 is_resume_answer held before now Done store out W P says device sink answer asked a b = inl (resume_answer held Done answer (says.0, says.1, says.2, says.3) asked)
 is_resume_answer held before now (JournalRefused NotOpen) store out W P says device sink answer asked a b = inl (resume_answer held (JournalRefused NotOpen) answer says asked)
-is_resume_answer held before now (JournalRefused (Bad at)) store out W P says device sink answer asked a b = inl (resume_answer held (JournalRefused (Bad at)) answer says asked)
-is_resume_answer held before now (JournalRefused (OtherLength kept found)) store out W P says device sink answer asked a b = inl (resume_answer held (JournalRefused (OtherLength kept found)) answer says asked)
 is_resume_answer held before now DeviceFault store out W P says device sink answer asked a b = absurd (a (device refl))
 is_resume_answer held before now SinkFault store out W P says device sink answer asked a b = absurd (b (sink refl))
 is_resume_answer held before now NoMemory store out W P says device sink answer asked a b = inr refl
-is_resume_answer held before now Usage store out W P says device sink answer asked a b = absurd says
-is_resume_answer held before now NotRecognised store out W P says device sink answer asked a b = absurd says
-is_resume_answer held before now (Damaged sort place) store out W P says device sink answer asked a b = absurd says
-is_resume_answer held before now (Unsupported what place) store out W P says device sink answer asked a b = absurd says
-is_resume_answer held before now (PlanRefused refusal) store out W P says device sink answer asked a b = absurd says
-is_resume_answer held before now JournalOpen store out W P says device sink answer asked a b = absurd says
-is_resume_answer held before now SourceFault store out W P says device sink answer asked a b = absurd says
-is_resume_answer held before now (Limit bound number) store out W P says device sink answer asked a b = absurd says
-is_resume_answer held before now NotBuilt store out W P says device sink answer asked a b = absurd says
+is_resume_answer held before now status store out W P says device sink answer asked a b = inl (resume_answer held status answer says asked)
 
 -- ---- redact
 
@@ -189,12 +126,7 @@ behind_journal text held (Damaged sort place) x = inr (λ stands. x.1 stands.1, 
 behind_journal text held (Unsupported what place) x = inr (λ stands. x.1 stands.1, (tt, x.0))
 behind_journal text held (PlanRefused (MeetsGuard byte number)) x = inr (λ stands. x.1 stands.1, (tt, x.0))
 behind_journal text held (Limit bound number) x = inr (λ stands. x.1 stands.1, (tt, x.0))
-behind_journal text held Usage x = absurd x
-behind_journal text held (JournalRefused refusal) x = absurd x
-behind_journal text held DeviceFault x = absurd x
-behind_journal text held SourceFault x = absurd x
-behind_journal text held SinkFault x = absurd x
-behind_journal text held NoMemory x = absurd x
+behind_journal text held status x = absurd x
 
 pub redact_answer : RedactHasOneAnswer
 redact_answer text held a b x y =
@@ -207,20 +139,13 @@ pub is_redact_answer : (text : List ℕ) (held : Held) (before now : State) (sta
     → RedactSays status text held before now W P → (status ≡ DeviceFault → store) → (status ≡ SourceFault → rules) → (status ≡ SinkFault → out)
     → (answer : Status) → RedactAnswers answer text held → ¬ store → ¬ rules → ¬ out → (status ≡ answer) ⊎ (status ≡ NoMemory)
 is_redact_answer text held before now Done store rules out W P says device source sink answer asked a b c = inl (redact_answer text held Done answer (says.0, says.1, says.2) asked)
-is_redact_answer text held before now NotBuilt store rules out W P says device source sink answer asked a b c = inl (redact_answer text held NotBuilt answer says asked)
-is_redact_answer text held before now JournalOpen store rules out W P says device source sink answer asked a b c = inl (redact_answer text held JournalOpen answer says asked)
-is_redact_answer text held before now NotRecognised store rules out W P says device source sink answer asked a b c = inl (redact_answer text held NotRecognised answer says asked)
-is_redact_answer text held before now (Damaged sort place) store rules out W P says device source sink answer asked a b c = inl (redact_answer text held (Damaged sort place) answer says asked)
-is_redact_answer text held before now (Unsupported what place) store rules out W P says device source sink answer asked a b c = inl (redact_answer text held (Unsupported what place) answer says asked)
 is_redact_answer text held before now (PlanRefused (MeetsGuard byte number)) store rules out W P says device source sink answer asked a b c =
     inl (redact_answer text held (PlanRefused (MeetsGuard byte number)) answer says asked)
-is_redact_answer text held before now (Limit bound number) store rules out W P says device source sink answer asked a b c = inl (redact_answer text held (Limit bound number) answer says asked)
 is_redact_answer text held before now DeviceFault store rules out W P says device source sink answer asked a b c = absurd (a (device refl))
 is_redact_answer text held before now SourceFault store rules out W P says device source sink answer asked a b c = absurd (b (source refl))
 is_redact_answer text held before now SinkFault store rules out W P says device source sink answer asked a b c = absurd (c (sink refl))
 is_redact_answer text held before now NoMemory store rules out W P says device source sink answer asked a b c = inr refl
-is_redact_answer text held before now Usage store rules out W P says device source sink answer asked a b c = absurd says
-is_redact_answer text held before now (JournalRefused refusal) store rules out W P says device source sink answer asked a b c = absurd says
+is_redact_answer text held before now status store rules out W P says device source sink answer asked a b c = inl (redact_answer text held status answer says asked)
 
 -- ---- the same of what may be told
 

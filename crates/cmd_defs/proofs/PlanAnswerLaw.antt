@@ -14,7 +14,7 @@ use Rattle.tree_defs.specs.Kind.{other_kind}
 use Rattle.tree_defs.specs.ImageTree.{image_tree}
 use Rattle.plan_defs.specs.Plan.{plan_of, guarded_byte, planning_rule}
 use Rattle.cmd_defs.specs.declared.status.Status.{Status}
-use Rattle.cmd_defs.specs.declared.status.Status.TheVariants.{Done, Usage, NotRecognised, Damaged, Unsupported, PlanRefused, JournalOpen, JournalRefused, DeviceFault, SourceFault, SinkFault, Limit, NoMemory, NotBuilt}
+use Rattle.cmd_defs.specs.declared.status.Status.TheVariants.{Done, NotRecognised, Damaged, Unsupported, PlanRefused, DeviceFault, SourceFault, SinkFault, Limit, NoMemory, NotBuilt}
 use Rattle.cmd_defs.specs.declared.status.PlanRefusal.TheVariants.{MeetsGuard}
 use Rattle.cmd_defs.specs.Outcome.{IfBothTold}
 use Rattle.cmd_defs.specs.PlanCommand.{MeetsForms, HasNoForm, RefusesImage, HasReport, FillsGuard, PassesRanges, PlanSays, PlanAnswers}
@@ -107,13 +107,11 @@ module _ (text image : List ℕ) where
   answered (PlanRefused (MeetsGuard byte number)) x = inr (of_guarded byte number x.1)
   answered (Limit bound number) x = inr (⊎_elim (λ refused. of_refusal (refusals.Limit bound number) refused) (λ passed. of_ranges bound number passed) x.1)
   answered NotBuilt x = inl (refl, x.1)
-  answered Usage x = absurd x.1
-  answered JournalOpen x = absurd x.1
-  answered (JournalRefused refusal) x = absurd x.1
   answered DeviceFault x = absurd x.0
   answered SourceFault x = absurd x.0
   answered SinkFault x = absurd x.0
   answered NoMemory x = absurd x.0
+  answered status x = absurd x.1
 
   not_both : (status : Status) → HasNoForm text image → IsAnswerTo text image status → ⊥
   not_both status none found = ⊎_elim (λ other. other found.0 found.1) (λ other. other found.2) none
@@ -138,21 +136,10 @@ is_the_answer None image status store rules out W P says device source sink answ
 is_the_answer (Some text) None status store rules out W P says device source sink answer = tt
 is_the_answer (Some text) (Some image) Done store rules out W P says device source sink answer =
     λ asked a b c. inl (one_answer text image Done answer (tt, (says.0, says.1, says.2, says.3, says.4, tt)) asked)
-is_the_answer (Some text) (Some image) Usage store rules out W P says device source sink answer = λ asked a b c. absurd says
-is_the_answer (Some text) (Some image) NotRecognised store rules out W P says device source sink answer =
-    λ asked a b c. inl (one_answer text image NotRecognised answer (tt, says) asked)
-is_the_answer (Some text) (Some image) (Damaged sort place) store rules out W P says device source sink answer =
-    λ asked a b c. inl (one_answer text image (Damaged sort place) answer (tt, says) asked)
-is_the_answer (Some text) (Some image) (Unsupported what place) store rules out W P says device source sink answer =
-    λ asked a b c. inl (one_answer text image (Unsupported what place) answer (tt, says) asked)
-is_the_answer (Some text) (Some image) (PlanRefused (MeetsGuard byte number)) store rules out W P says device source sink answer =
-    λ asked a b c. inl (one_answer text image (PlanRefused (MeetsGuard byte number)) answer (tt, says) asked)
-is_the_answer (Some text) (Some image) (Limit bound number) store rules out W P says device source sink answer =
-    λ asked a b c. inl (one_answer text image (Limit bound number) answer (tt, says) asked)
-is_the_answer (Some text) (Some image) JournalOpen store rules out W P says device source sink answer = λ asked a b c. absurd says
-is_the_answer (Some text) (Some image) (JournalRefused refusal) store rules out W P says device source sink answer = λ asked a b c. absurd says
 is_the_answer (Some text) (Some image) DeviceFault store rules out W P says device source sink answer = λ asked a b c. absurd (a (device refl))
 is_the_answer (Some text) (Some image) SourceFault store rules out W P says device source sink answer = λ asked a b c. absurd (b (source refl))
 is_the_answer (Some text) (Some image) SinkFault store rules out W P says device source sink answer = λ asked a b c. absurd (c (sink refl))
 is_the_answer (Some text) (Some image) NoMemory store rules out W P says device source sink answer = λ asked a b c. inr refl
-is_the_answer (Some text) (Some image) NotBuilt store rules out W P says device source sink answer = λ asked a b c. inl (one_answer text image NotBuilt answer (tt, says) asked)
+is_the_answer (Some text) (Some image) (PlanRefused (MeetsGuard byte number)) store rules out W P says device source sink answer =
+    λ asked a b c. inl (one_answer text image (PlanRefused (MeetsGuard byte number)) answer (tt, says) asked)
+is_the_answer (Some text) (Some image) status store rules out W P says device source sink answer = λ asked a b c. inl (one_answer text image status answer (tt, says) asked)

@@ -14,7 +14,7 @@ use Rattle.plan_defs.specs.Plan.{plan_of, guarded_byte, planning_rule, HasMoreRa
 use Rattle.text_defs.specs.Report.{report}
 use Rattle.text_defs.specs.declared.ReportState.TheVariants.{Planned}
 use Rattle.cmd_defs.specs.declared.status.Status.{Status}
-use Rattle.cmd_defs.specs.declared.status.Status.TheVariants.{Done, Usage, NotRecognised, Damaged, Unsupported, PlanRefused, JournalOpen, JournalRefused, DeviceFault, SourceFault, SinkFault, Limit, NoMemory, NotBuilt}
+use Rattle.cmd_defs.specs.declared.status.Status.TheVariants.{Done, NotRecognised, Damaged, Unsupported, PlanRefused, DeviceFault, SourceFault, SinkFault, Limit, NoMemory, NotBuilt}
 use Rattle.cmd_defs.specs.declared.status.PlanRefusal.TheVariants.{MeetsGuard}
 use Rattle.cmd_defs.specs.Outcome.{IsAnswer}
 
@@ -63,12 +63,9 @@ HasReport text image P =
 -- What a status of `plan` says of the rule text and the image, in the order of the refusals. The two facts are of what was
 -- written: this text, and some first bytes of it. A status that `plan` never gives has no case that holds.
 abbrev pub PlanSays : Status → List ℕ → List ℕ → (List ℕ → Type 0) → (List ℕ → Type 0) → Type 0
-PlanSays Usage text image Wrote BeganWith = ⊥
 PlanSays SourceFault text image Wrote BeganWith = Unit {0}
 PlanSays NotBuilt text image Wrote BeganWith = HasNoForm text image
 PlanSays DeviceFault text image Wrote BeganWith = SaysRules text
-PlanSays JournalOpen text image Wrote BeganWith = ⊥
-PlanSays (JournalRefused refusal) text image Wrote BeganWith = ⊥
 PlanSays NotRecognised text image Wrote BeganWith = RefusesImage refusals.NotThis text image
 PlanSays (Damaged sort place) text image Wrote BeganWith = RefusesImage (refusals.Damaged sort place) text image
 PlanSays (Unsupported what place) text image Wrote BeganWith = RefusesImage (refusals.Unsupported what place) text image
@@ -77,6 +74,7 @@ PlanSays (Limit bound number) text image Wrote BeganWith = PassesLimit bound num
 PlanSays SinkFault text image Wrote BeganWith = HasReport text image BeganWith
 PlanSays Done text image Wrote BeganWith = HasReport text image Wrote
 PlanSays NoMemory text image Wrote BeganWith = Unit {0}
+PlanSays _ text image Wrote BeganWith = ⊥
 
 -- the answer of `plan` to a text and an image, whatever was written
 abbrev pub PlanAnswers : Status → List ℕ → List ℕ → Type 0

@@ -116,34 +116,22 @@ journal_line (OtherLength kept found) = codes "dfredact: journal is for " ++ dec
 
 -- the text that says a status with no operand
 unfoldable pub plain_text : Status → List ℕ
-plain_text Done = []
 plain_text Usage = codes "usage: inventory IMAGE, plan IMAGE RULES, redact IMAGE JOURNAL RULES, resume IMAGE JOURNAL, report JOURNAL, selftest KIND NUMBER FILES"
 plain_text NotRecognised = codes "no file system recognised"
-plain_text (Damaged sort place) = []
-plain_text (Unsupported what place) = []
-plain_text (PlanRefused refusal) = []
 plain_text JournalOpen = codes "journal already holds a plan"
-plain_text (JournalRefused refusal) = []
 plain_text DeviceFault = codes "image or journal failed"
 plain_text SourceFault = codes "rule text failed"
 plain_text SinkFault = codes "output failed"
-plain_text (Limit bound number) = []
 plain_text NoMemory = codes "out of memory"
 plain_text NotBuilt = codes "not built yet"
+plain_text _ = []
 
 -- the line that says a status. Done says nothing
 unfoldable pub status_line : Status → List ℕ
 status_line Done = []
-status_line Usage = program_line (plain_text Usage)
-status_line NotRecognised = program_line (plain_text NotRecognised)
 status_line (Damaged sort place) = damage_line sort place
 status_line (Unsupported what place) = unsupported_line what place
 status_line (PlanRefused refusal) = refusal_line refusal
-status_line JournalOpen = program_line (plain_text JournalOpen)
 status_line (JournalRefused refusal) = journal_line refusal
-status_line DeviceFault = program_line (plain_text DeviceFault)
-status_line SourceFault = program_line (plain_text SourceFault)
-status_line SinkFault = program_line (plain_text SinkFault)
 status_line (Limit bound number) = limit_line bound number
-status_line NoMemory = program_line (plain_text NoMemory)
-status_line NotBuilt = program_line (plain_text NotBuilt)
+status_line status = program_line (plain_text status)
