@@ -73,27 +73,20 @@ two_runs_found : fork_fault small_volume [] (two_runs 2) 5000000 ≡ None
 unfolding fork_fault
 two_runs_found = refl
 
--- the last byte of block 10, the first of block 20, and the first behind
-first_places : byte_place small_volume (extents_with [] (two_runs 2)) 4095 ≡ Some 45055
+bytes_of_two_runs :
+    -- the last byte of block 10, the first of block 20, and the first behind
+    (byte_place small_volume (extents_with [] (two_runs 2)) 4095 ≡ Some 45055)
+    × (byte_place small_volume (extents_with [] (two_runs 2)) 4096 ≡ Some 81920)  -- second places
+    × (byte_place small_volume (extents_with [] (two_runs 2)) 8192 ≡ None)  -- past places
 unfolding byte_place
-first_places = refl
+bytes_of_two_runs = (refl, refl, refl)
 
-second_places : byte_place small_volume (extents_with [] (two_runs 2)) 4096 ≡ Some 81920
-unfolding byte_place
-second_places = refl
-
-past_places : byte_place small_volume (extents_with [] (two_runs 2)) 8192 ≡ None
-unfolding byte_place
-past_places = refl
-
--- with three blocks, and with an extent that passes the volume
-three_blocks : found_fork small_volume [] (two_runs 3) 5000000 ≡ Err (Damaged ForkSum 5000000)
+sums_refused :
+    (found_fork small_volume [] (two_runs 3) 5000000 ≡ Err (Damaged ForkSum 5000000))  -- with three blocks, and with an extent that passes the volume
+    -- past volume
+    × (found_fork small_volume [] (fork_with 5000 2 (record { start = 999; count = 2 }) none) 5000000 ≡ Err (Damaged ForkExtent 5000016))
 unfolding found_fork fork_fault
-three_blocks = refl
-
-past_volume : found_fork small_volume [] (fork_with 5000 2 (record { start = 999; count = 2 }) none) 5000000 ≡ Err (Damaged ForkExtent 5000016)
-unfolding found_fork fork_fault
-past_volume = refl
+sums_refused = (refl, refl)
 
 -- ---- ten extents, the last two in an overflow record
 
@@ -132,28 +125,23 @@ ten_runs_found : fork_fault small_volume (records_of (overflow_at 20 8 (one_at 3
 unfolding fork_fault records_of sorted_by_order
 ten_runs_found = refl
 
--- the record is of another file, or of the other fork
-another_file : found_fork small_volume (records_of (overflow_at 21 8 (one_at 300) (one_at 302) 70000 ∷ []) 20 0) ten_runs 5000000 ≡ Err (Damaged ForkSum 5000000)
+records_of_another :
+    -- the record is of another file, or of the other fork
+    (found_fork small_volume (records_of (overflow_at 21 8 (one_at 300) (one_at 302) 70000 ∷ []) 20 0) ten_runs 5000000 ≡ Err (Damaged ForkSum 5000000))
+    -- other fork
+    × (found_fork small_volume (records_of (overflow_at 20 8 (one_at 300) (one_at 302) 70000 ∷ []) 20 255) ten_runs 5000000 ≡ Err (Damaged ForkSum 5000000))
 unfolding found_fork fork_fault records_of sorted_by_order
-another_file = refl
+records_of_another = (refl, refl)
 
-other_fork : found_fork small_volume (records_of (overflow_at 20 8 (one_at 300) (one_at 302) 70000 ∷ []) 20 255) ten_runs 5000000 ≡ Err (Damaged ForkSum 5000000)
-unfolding found_fork fork_fault records_of sorted_by_order
-other_fork = refl
-
--- two records that stand the other way round
-turned_round : fork_fault small_volume (records_of (overflow_at 20 9 (one_at 302) none 70000 ∷ overflow_at 20 8 (one_at 300) none 70100 ∷ []) 20 0) ten_runs 5000000 ≡ None
+records_in_order :
+    -- two records that stand the other way round
+    (fork_fault small_volume (records_of (overflow_at 20 9 (one_at 302) none 70000 ∷ overflow_at 20 8 (one_at 300) none 70100 ∷ []) 20 0) ten_runs 5000000 ≡ None)
+    -- an empty record in front of one that begins at the same block, and behind it
+    × (fork_fault small_volume (records_of (overflow_at 20 8 none none 70000 ∷ overflow_at 20 8 (one_at 300) (one_at 302) 70100 ∷ []) 20 0) ten_runs 5000000 ≡ None)
+    -- empty behind
+    × (fork_fault small_volume (records_of (overflow_at 20 8 (one_at 300) (one_at 302) 70000 ∷ overflow_at 20 8 none none 70100 ∷ []) 20 0) ten_runs 5000000 ≡ Some (Damaged ForkSum 5000000))
 unfolding fork_fault records_of sorted_by_order
-turned_round = refl
-
--- an empty record in front of one that begins at the same block, and behind it
-empty_first : fork_fault small_volume (records_of (overflow_at 20 8 none none 70000 ∷ overflow_at 20 8 (one_at 300) (one_at 302) 70100 ∷ []) 20 0) ten_runs 5000000 ≡ None
-unfolding fork_fault records_of sorted_by_order
-empty_first = refl
-
-empty_behind : fork_fault small_volume (records_of (overflow_at 20 8 (one_at 300) (one_at 302) 70000 ∷ overflow_at 20 8 none none 70100 ∷ []) 20 0) ten_runs 5000000 ≡ Some (Damaged ForkSum 5000000)
-unfolding fork_fault records_of sorted_by_order
-empty_behind = refl
+records_in_order = (refl, refl, refl)
 
 -- an extent of an overflow record passes the volume
 overflow_past : found_fork small_volume (records_of (overflow_at 20 8 (one_at 300) (one_at 1000) 70000 ∷ []) 20 0) ten_runs 5000000 ≡ Err (Damaged ForkExtent 70020)
@@ -216,21 +204,10 @@ two_leaves : leaves_of (small_tree 2 0) ≡ record {
 unfolding leaves_of chain_within leaves_of_node is_leaf_in is_tree is_node_size is_sound_node is_record part number_at ones
 two_leaves = refl
 
--- the last node leads to itself, or to no node
-leads_to_itself : (leaves_of (small_tree 2 1)).stop ≡ Some (Damaged NodeLink 1296)
+links_lead :
+    ((leaves_of (small_tree 2 1)).stop ≡ Some (Damaged NodeLink 1296))  -- the last node leads to itself, or to no node
+    × ((leaves_of (small_tree 2 3)).stop ≡ Some (Damaged NodeLink 8704))  -- leads outside
+    × (leaves_of (small_tree 3 0) ≡ record { records = []; stop = Some (Damaged NodeLink 8216) })  -- the header leads to no node
+    × (leaves_of (small_tree 0 0) ≡ record { records = []; stop = None })  -- a tree without leaves
 unfolding leaves_of chain_within leaves_of_node is_leaf_in is_tree is_node_size is_sound_node is_record part number_at ones
-leads_to_itself = refl
-
-leads_outside : (leaves_of (small_tree 2 3)).stop ≡ Some (Damaged NodeLink 8704)
-unfolding leaves_of chain_within leaves_of_node is_leaf_in is_tree is_node_size is_sound_node is_record part number_at ones
-leads_outside = refl
-
--- the header leads to no node
-begins_outside : leaves_of (small_tree 3 0) ≡ record { records = []; stop = Some (Damaged NodeLink 8216) }
-unfolding leaves_of chain_within leaves_of_node is_leaf_in is_tree is_node_size is_sound_node is_record part number_at ones
-begins_outside = refl
-
--- a tree without leaves
-no_leaves : leaves_of (small_tree 0 0) ≡ record { records = []; stop = None }
-unfolding leaves_of chain_within leaves_of_node is_leaf_in is_tree is_node_size is_sound_node is_record part number_at ones
-no_leaves = refl
+links_lead = (refl, refl, refl, refl)

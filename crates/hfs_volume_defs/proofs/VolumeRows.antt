@@ -194,37 +194,19 @@ plain_tree = refl
 abbrev with_byte : ℕ → ℕ → Result TreeValue Refusal
 with_byte at byte = result_of (slice_set plain_image at byte) (volume_tree 20480 0 20480 0)
 
--- the signature is another one; a block has no byte; the extents file has two blocks, and one in its extents
-header_refused : (with_byte 1024 0 ≡ Err NotThis) × (with_byte 1066 0 ≡ Err (Damaged HeaderField 1064)) × (with_byte 1231 2 ≡ Err (Unsupported ExtentsFork 1216))
+refused :
+    -- the signature is another one; a block has no byte; the extents file has two blocks, and one in its extents
+    (with_byte 1024 0 ≡ Err NotThis) × (with_byte 1066 0 ≡ Err (Damaged HeaderField 1064)) × (with_byte 1231 2 ≡ Err (Unsupported ExtentsFork 1216))
+    × (with_byte 6147 1 ≡ Err (Damaged NodeLink 1296))  -- the leaf node leads to itself
+    -- two files have one number; a file has two blocks, and one in its extents
+    × (with_byte 6535 16 ≡ Err (Damaged CatalogTwice 6514)) × (with_byte 6369 2 ≡ Err (Damaged ForkSum 6354))
+    -- the root folder has another number; a file is in no folder
+    × (with_byte 6179 99 ≡ Err (Damaged FolderMissing 1296)) × (with_byte 6261 9 ≡ Err (Damaged FolderMissing 6256))
+    -- the volume has a block more than bytes for it; node 0 of the extents file, and that of the catalog, isn't of kind 1
+    × (with_byte 1071 41 ≡ Err (Damaged HeaderField 1068)) × (with_byte 4104 0 ≡ Err (Damaged TreeHeader 1216)) × (with_byte 5128 0 ≡ Err (Damaged TreeHeader 1296))
+    -- a record begins in the descriptor of its node; a record has an unknown type
+    × (with_byte 7167 13 ≡ Err (Damaged NodeRecord 6144)) × (with_byte 6169 5 ≡ Err (Damaged CatalogRecord 6158))
+    -- an extent of a file passes the volume; a file has the number of the attributes file
+    × (with_byte 6373 40 ≡ Err (Damaged ForkExtent 6370)) × (with_byte 6535 8 ≡ Err (Damaged CatalogTwice 6514))
 unfolding plain_image encode_utf8 digits hex_digit byte_escape unit_escape word_spelling name_spelling item_of_units part number_at ones items_text unit_items sorted_by_order longest_ranges header_of fork_of wrong_field is_block_size volume_header records_of fork_fault pieces_of slack_of found_fork is_tree is_node_size is_sound_node is_record leaves_of chain_within leaves_of_node is_leaf_in is_overflow_record checked_overflow has_name record_kind checked_entry path_within folder_path named_file fork_part entry_file special_file look_through tree_leaves fork_leaves volume_overflow volume_entries sound_entries names_within guard_of files_within volume_files tree_below volume_tree
-header_refused = (refl, refl, refl)
-
--- the leaf node leads to itself
-node_leads_to_itself : with_byte 6147 1 ≡ Err (Damaged NodeLink 1296)
-unfolding plain_image encode_utf8 digits hex_digit byte_escape unit_escape word_spelling name_spelling item_of_units part number_at ones items_text unit_items sorted_by_order longest_ranges header_of fork_of wrong_field is_block_size volume_header records_of fork_fault pieces_of slack_of found_fork is_tree is_node_size is_sound_node is_record leaves_of chain_within leaves_of_node is_leaf_in is_overflow_record checked_overflow has_name record_kind checked_entry path_within folder_path named_file fork_part entry_file special_file look_through tree_leaves fork_leaves volume_overflow volume_entries sound_entries names_within guard_of files_within volume_files tree_below volume_tree
-node_leads_to_itself = refl
-
--- two files have one number; a file has two blocks, and one in its extents
-catalog_refused : (with_byte 6535 16 ≡ Err (Damaged CatalogTwice 6514)) × (with_byte 6369 2 ≡ Err (Damaged ForkSum 6354))
-unfolding plain_image encode_utf8 digits hex_digit byte_escape unit_escape word_spelling name_spelling item_of_units part number_at ones items_text unit_items sorted_by_order longest_ranges header_of fork_of wrong_field is_block_size volume_header records_of fork_fault pieces_of slack_of found_fork is_tree is_node_size is_sound_node is_record leaves_of chain_within leaves_of_node is_leaf_in is_overflow_record checked_overflow has_name record_kind checked_entry path_within folder_path named_file fork_part entry_file special_file look_through tree_leaves fork_leaves volume_overflow volume_entries sound_entries names_within guard_of files_within volume_files tree_below volume_tree
-catalog_refused = (refl, refl)
-
--- the root folder has another number; a file is in no folder
-folder_missing : (with_byte 6179 99 ≡ Err (Damaged FolderMissing 1296)) × (with_byte 6261 9 ≡ Err (Damaged FolderMissing 6256))
-unfolding plain_image encode_utf8 digits hex_digit byte_escape unit_escape word_spelling name_spelling item_of_units part number_at ones items_text unit_items sorted_by_order longest_ranges header_of fork_of wrong_field is_block_size volume_header records_of fork_fault pieces_of slack_of found_fork is_tree is_node_size is_sound_node is_record leaves_of chain_within leaves_of_node is_leaf_in is_overflow_record checked_overflow has_name record_kind checked_entry path_within folder_path named_file fork_part entry_file special_file look_through tree_leaves fork_leaves volume_overflow volume_entries sound_entries names_within guard_of files_within volume_files tree_below volume_tree
-folder_missing = (refl, refl)
-
--- the volume has a block more than bytes for it; node 0 of the extents file, and that of the catalog, isn't of kind 1
-tree_refused : (with_byte 1071 41 ≡ Err (Damaged HeaderField 1068)) × (with_byte 4104 0 ≡ Err (Damaged TreeHeader 1216)) × (with_byte 5128 0 ≡ Err (Damaged TreeHeader 1296))
-unfolding plain_image encode_utf8 digits hex_digit byte_escape unit_escape word_spelling name_spelling item_of_units part number_at ones items_text unit_items sorted_by_order longest_ranges header_of fork_of wrong_field is_block_size volume_header records_of fork_fault pieces_of slack_of found_fork is_tree is_node_size is_sound_node is_record leaves_of chain_within leaves_of_node is_leaf_in is_overflow_record checked_overflow has_name record_kind checked_entry path_within folder_path named_file fork_part entry_file special_file look_through tree_leaves fork_leaves volume_overflow volume_entries sound_entries names_within guard_of files_within volume_files tree_below volume_tree
-tree_refused = (refl, refl, refl)
-
--- a record begins in the descriptor of its node; a record has an unknown type
-record_refused : (with_byte 7167 13 ≡ Err (Damaged NodeRecord 6144)) × (with_byte 6169 5 ≡ Err (Damaged CatalogRecord 6158))
-unfolding plain_image encode_utf8 digits hex_digit byte_escape unit_escape word_spelling name_spelling item_of_units part number_at ones items_text unit_items sorted_by_order longest_ranges header_of fork_of wrong_field is_block_size volume_header records_of fork_fault pieces_of slack_of found_fork is_tree is_node_size is_sound_node is_record leaves_of chain_within leaves_of_node is_leaf_in is_overflow_record checked_overflow has_name record_kind checked_entry path_within folder_path named_file fork_part entry_file special_file look_through tree_leaves fork_leaves volume_overflow volume_entries sound_entries names_within guard_of files_within volume_files tree_below volume_tree
-record_refused = (refl, refl)
-
--- an extent of a file passes the volume; a file has the number of the attributes file
-file_refused : (with_byte 6373 40 ≡ Err (Damaged ForkExtent 6370)) × (with_byte 6535 8 ≡ Err (Damaged CatalogTwice 6514))
-unfolding plain_image encode_utf8 digits hex_digit byte_escape unit_escape word_spelling name_spelling item_of_units part number_at ones items_text unit_items sorted_by_order longest_ranges header_of fork_of wrong_field is_block_size volume_header records_of fork_fault pieces_of slack_of found_fork is_tree is_node_size is_sound_node is_record leaves_of chain_within leaves_of_node is_leaf_in is_overflow_record checked_overflow has_name record_kind checked_entry path_within folder_path named_file fork_part entry_file special_file look_through tree_leaves fork_leaves volume_overflow volume_entries sound_entries names_within guard_of files_within volume_files tree_below volume_tree
-file_refused = (refl, refl)
+refused = (refl, refl, refl, refl, refl, refl, refl, refl, refl, refl, refl, refl, refl, refl, refl)

@@ -52,107 +52,41 @@ three_bytes_journal = record {
   last_fits = lit< tt;
 }
 
-three_bytes_pass : bad_at three_bytes_filled ≡ None
+three_bytes_rows :
+    (bad_at three_bytes_filled ≡ None)  -- three bytes pass
+    × (plan_in three_bytes_filled ≡ three_bytes)  -- three bytes read
+    × (bad_at (take 74 three_bytes_filled) ≡ Some 24)  -- cut by its last byte, its body length is wrong
 unfolding computing
-three_bytes_pass = refl
-
-three_bytes_read : plan_in three_bytes_filled ≡ three_bytes
-unfolding computing
-three_bytes_read = refl
-
--- cut by its last byte, its body length is wrong
-three_bytes_cut : bad_at (take 74 three_bytes_filled) ≡ Some 24
-unfolding computing
-three_bytes_cut = refl
+three_bytes_rows = (refl, refl, refl)
 
 -- one byte of it changed, check by check
 abbrev changed : (at byte : ℕ) → Option ℕ
 changed at byte = bad_at (set three_bytes_filled at byte)
 
-other_text : changed 7 0x32 ≡ Some 1
+changed_bytes :
+    (changed 7 0x32 ≡ Some 1)  -- other text
+    × (changed 14 1 ≡ Some 8)  -- image too long
+    × (changed 19 1 ≡ Some 16)  -- too many ranges
+    × (changed 23 1 ≡ Some 20)  -- too many lines
+    × (changed 24 0x24 ≡ Some 24)  -- longer body
+    × (changed 32 10 ≡ Some 32)  -- longer listing
+    × (changed 42 4 ≡ Some 40)  -- behind the image
+    × (changed 48 0 ≡ Some 48)  -- empty range
+    × (changed 50 4 ≡ Some 48)  -- passes the image
+    × (changed 56 0 ≡ Some 56)  -- no rule
+    × (changed 57 4 ≡ Some 56)  -- rule 1001
+    × (changed 63 1 ≡ Some 61)  -- no three zeros
+    × (changed 64 3 ≡ Some 64)  -- no kind
+    × (changed 65 0 ≡ Some 65)  -- file without rule
+    × (changed 64 2 ≡ Some 65)  -- alias with rule
+    × (changed 69 3 ≡ Some 69)  -- path passes the listing
+    × (changed 71 0x61 ≡ Some 71)  -- path without slash
+    × (changed 72 0x7F ≡ Some 71)  -- path with a control byte
+    × (changed 72 0xFF ≡ Some 71)  -- path that is no text
+    × (changed 69 1 ≡ Some 72)  -- bytes behind the last line
+    × (changed 73 0 ≡ None)  -- a mark is never bad
 unfolding computing
-other_text = refl
-
-image_too_long : changed 14 1 ≡ Some 8
-unfolding computing
-image_too_long = refl
-
-too_many_ranges : changed 19 1 ≡ Some 16
-unfolding computing
-too_many_ranges = refl
-
-too_many_lines : changed 23 1 ≡ Some 20
-unfolding computing
-too_many_lines = refl
-
-longer_body : changed 24 0x24 ≡ Some 24
-unfolding computing
-longer_body = refl
-
-longer_listing : changed 32 10 ≡ Some 32
-unfolding computing
-longer_listing = refl
-
-behind_the_image : changed 42 4 ≡ Some 40
-unfolding computing
-behind_the_image = refl
-
-empty_range : changed 48 0 ≡ Some 48
-unfolding computing
-empty_range = refl
-
-passes_the_image : changed 50 4 ≡ Some 48
-unfolding computing
-passes_the_image = refl
-
-no_rule : changed 56 0 ≡ Some 56
-unfolding computing
-no_rule = refl
-
-rule_1001 : changed 57 4 ≡ Some 56
-unfolding computing
-rule_1001 = refl
-
-no_three_zeros : changed 63 1 ≡ Some 61
-unfolding computing
-no_three_zeros = refl
-
-no_kind : changed 64 3 ≡ Some 64
-unfolding computing
-no_kind = refl
-
-file_without_rule : changed 65 0 ≡ Some 65
-unfolding computing
-file_without_rule = refl
-
-alias_with_rule : changed 64 2 ≡ Some 65
-unfolding computing
-alias_with_rule = refl
-
-path_passes_the_listing : changed 69 3 ≡ Some 69
-unfolding computing
-path_passes_the_listing = refl
-
-path_without_slash : changed 71 0x61 ≡ Some 71
-unfolding computing
-path_without_slash = refl
-
-path_with_a_control_byte : changed 72 0x7F ≡ Some 71
-unfolding computing
-path_with_a_control_byte = refl
-
-path_that_is_no_text : changed 72 0xFF ≡ Some 71
-unfolding computing
-path_that_is_no_text = refl
-
-bytes_behind_the_last_line : changed 69 1 ≡ Some 72
-unfolding computing
-bytes_behind_the_last_line = refl
-
--- a mark is never bad
-other_mark : changed 73 0 ≡ None
-unfolding computing
-other_mark = refl
+changed_bytes = (refl, refl, refl, refl, refl, refl, refl, refl, refl, refl, refl, refl, refl, refl, refl, refl, refl, refl, refl, refl, refl)
 
 -- a plan without ranges and lines
 abbrev nothing : Plan
@@ -180,18 +114,12 @@ nothing_journal = record {
   last_fits = lit< tt;
 }
 
-nothing_passes : bad_at nothing_filled ≡ None
+first_written :
+    (bad_at nothing_filled ≡ None)  -- nothing passes
+    × (first_journal nothing ≡ set (set nothing_filled 0 0) 40 0)  -- as it is first written
+    × (first_journal three_bytes ≡ set (set (set three_bytes_filled 0 0) 73 0) 74 0)  -- three bytes first
 unfolding computing
-nothing_passes = refl
-
--- as it is first written
-nothing_first : first_journal nothing ≡ set (set nothing_filled 0 0) 40 0
-unfolding computing
-nothing_first = refl
-
-three_bytes_first : first_journal three_bytes ≡ set (set (set three_bytes_filled 0 0) 73 0) 74 0
-unfolding computing
-three_bytes_first = refl
+first_written = (refl, refl, refl)
 
 three_bytes_len : journal_len three_bytes ≡ 75
 three_bytes_len = refl

@@ -150,18 +150,12 @@ no_file : result_of (spoilt 3 (written 2 56 160 one_attribute)) (record_of 1024)
 unfolding record_of part
 no_file = refl
 
-second_end_wrong : result_of (spoilt 1022 over_an_end) (record_of 1024) ≡ Err (BadFixup 1)
+ends_and_count_wrong :
+    (result_of (spoilt 1022 over_an_end) (record_of 1024) ≡ Err (BadFixup 1))  -- second end wrong
+    × (result_of (spoilt 511 (spoilt 1022 over_an_end)) (record_of 1024) ≡ Err (BadFixup 0))  -- of two wrong ends the first is told
+    × (result_of (stored 2 48 (padded 1024 (header_bytes 48 2 56 160))) (record_of 1024) ≡ Err (BadField 6))  -- wrong count
 unfolding record_of record_behind header_of part number_at
-second_end_wrong = refl
-
--- of two wrong ends the first is told
-both_ends_wrong : result_of (spoilt 511 (spoilt 1022 over_an_end)) (record_of 1024) ≡ Err (BadFixup 0)
-unfolding record_of record_behind header_of part number_at
-both_ends_wrong = refl
-
-wrong_count : result_of (stored 2 48 (padded 1024 (header_bytes 48 2 56 160))) (record_of 1024) ≡ Err (BadField 6)
-unfolding record_of record_behind header_of part number_at
-wrong_count = refl
+ends_and_count_wrong = (refl, refl, refl)
 
 -- an array that ends at 510, and one that ends behind it, at an odd byte, or in the header
 abbrev array_at : ℕ → Result (List ℕ) RecordFault
@@ -171,14 +165,11 @@ last_array : array_at 504 ≡ Ok []
 unfolding record_of record_behind header_of via look_bytes attributes_within part number_at stored_place
 last_array = refl
 
-wrong_arrays : map array_at (506 ∷ 49 ∷ 40 ∷ []) ≡ Err (BadField 4) ∷ Err (BadField 4) ∷ Err (BadField 4) ∷ []
+arrays_wrong :
+    (map array_at (506 ∷ 49 ∷ 40 ∷ []) ≡ Err (BadField 4) ∷ Err (BadField 4) ∷ Err (BadField 4) ∷ [])  -- wrong arrays
+    × (result_of (written 2 50 160 one_attribute) (record_of 1024) ≡ Err (BadField 20))  -- an array over the first attribute
 unfolding record_of record_behind header_of part number_at
-wrong_arrays = refl
-
--- an array over the first attribute
-first_too_early : result_of (written 2 50 160 one_attribute) (record_of 1024) ≡ Err (BadField 20)
-unfolding record_of record_behind header_of part number_at
-first_too_early = refl
+arrays_wrong = (refl, refl)
 
 -- used sizes: past the record, and without place for the mark that ends the attributes
 abbrev used_up_to : ℕ → Result (List ℕ) RecordFault
@@ -213,29 +204,24 @@ wrong_lengths : map (λ len. with_attribute (resident 0x10 len [])) (28 ∷ 16 �
 unfolding record_of record_behind header_of via look_bytes attributes_within is_length part number_at stored_place
 wrong_lengths = refl
 
--- a name of one unit that touches the content, one that ends in it, and one in the header
-names : map (λ at. with_attribute (resident_at 0x80 32 1 at 26 [])) (24 ∷ 25 ∷ 22 ∷ []) ≡ Ok (56 ∷ []) ∷ Err (BadField 56) ∷ Err (BadField 56) ∷ []
+names_and_contents :
+    -- a name of one unit that touches the content, one that ends in it, and one in the header
+    (map (λ at. with_attribute (resident_at 0x80 32 1 at 26 [])) (24 ∷ 25 ∷ 22 ∷ []) ≡ Ok (56 ∷ []) ∷ Err (BadField 56) ∷ Err (BadField 56) ∷ [])
+    × (with_attribute (resident 0x80 32 (replicate 8 1)) ≡ Ok (56 ∷ []))  -- content up to the attribute's end
 unfolding record_of record_behind header_of via look_bytes attributes_within is_length is_layout part number_at stored_place
-names = refl
-
--- content up to the attribute's end
-content_up_to_the_end : with_attribute (resident 0x80 32 (replicate 8 1)) ≡ Ok (56 ∷ [])
-unfolding record_of record_behind header_of via look_bytes attributes_within is_length is_layout part number_at stored_place
-content_up_to_the_end = refl
+names_and_contents = (refl, refl)
 
 -- a resident attribute of 32 bytes with this length and place of its content
 abbrev content_at : ℕ → ℕ → List ℕ
 content_at at len = take 16 (resident 0x80 32 []) ++ w32 len ++ w16 at ++ replicate 10 0
 
--- content one byte past the end, and in the header
-wrong_contents : (with_attribute (content_at 24 9) ≡ Err (BadField 56)) × (with_attribute (content_at 23 0) ≡ Err (BadField 56))
+contents_and_lists :
+    -- content one byte past the end, and in the header
+    (with_attribute (content_at 24 9) ≡ Err (BadField 56)) × (with_attribute (content_at 23 0) ≡ Err (BadField 56))
+    -- a run list behind the header, at the attribute's end, in the header, and past the end
+    × (map (λ at. with_attribute (in_clusters 72 at (0x11 ∷ 2 ∷ 5 ∷ 0 ∷ []))) (64 ∷ 72 ∷ 63 ∷ 73 ∷ []) ≡ Ok (56 ∷ []) ∷ Ok (56 ∷ []) ∷ Err (BadField 56) ∷ Err (BadField 56) ∷ [])
 unfolding record_of record_behind header_of via look_bytes attributes_within is_length is_layout part number_at stored_place
-wrong_contents = (refl, refl)
-
--- a run list behind the header, at the attribute's end, in the header, and past the end
-run_lists : map (λ at. with_attribute (in_clusters 72 at (0x11 ∷ 2 ∷ 5 ∷ 0 ∷ []))) (64 ∷ 72 ∷ 63 ∷ 73 ∷ []) ≡ Ok (56 ∷ []) ∷ Ok (56 ∷ []) ∷ Err (BadField 56) ∷ Err (BadField 56) ∷ []
-unfolding record_of record_behind header_of via look_bytes attributes_within is_length is_layout part number_at stored_place
-run_lists = refl
+contents_and_lists = (refl, refl, refl)
 
 abbrev clustered_attribute : Opened
 clustered_attribute = record {

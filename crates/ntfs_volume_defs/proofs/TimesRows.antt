@@ -69,11 +69,9 @@ written = record {
   created = Some (record { seconds = pos 0 });
 }
 
-times_are : says image (told written)
+times_told :
+    (says image (told written))  -- times are
+    -- a content of 31 bytes has no place for four times, and an attribute of another type says none
+    × says (slice_set image 584 31) (told NO_TIMES) × says (slice_set image 568 80) (told NO_TIMES)
 unfolding image part number_at digits ones sorted_by_order slot_of stored_slot is_whole slot_place via look_bytes header_of record_behind stored_place attributes_within is_length is_layout parts_of paths_of file_of
-times_are = refl
-
--- a content of 31 bytes has no place for four times, and an attribute of another type says none
-none_are : says (slice_set image 584 31) (told NO_TIMES) × says (slice_set image 568 80) (told NO_TIMES)
-unfolding image part number_at digits ones sorted_by_order slot_of stored_slot is_whole slot_place via look_bytes header_of record_behind stored_place attributes_within is_length is_layout parts_of paths_of file_of
-none_are = (refl, refl)
+times_told = (refl, refl, refl)

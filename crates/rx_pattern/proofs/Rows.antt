@@ -11,83 +11,42 @@ star_reads : read_pattern (codes "f*3.dat") ≡ Ok (Plain 102 ∷ Star ∷ Plain
 unfolding items_past
 star_reads = refl
 
-star_matches : is_match (Plain 102 ∷ Star ∷ Plain 51 ∷ Plain 46 ∷ Plain 100 ∷ Plain 97 ∷ Plain 116 ∷ []) (codes "f0013.dat") ≡ true
+stars_match :
+    (is_match (Plain 102 ∷ Star ∷ Plain 51 ∷ Plain 46 ∷ Plain 100 ∷ Plain 97 ∷ Plain 116 ∷ []) (codes "f0013.dat") ≡ true)  -- star matches
+    × (is_match (Plain 102 ∷ Star ∷ Plain 51 ∷ Plain 46 ∷ Plain 100 ∷ Plain 97 ∷ Plain 116 ∷ []) (codes "f0013.data") ≡ false)  -- star misses
+    × (is_match (Star ∷ []) [] ≡ true)  -- star matches nothing
 unfolding is_match
-star_matches = refl
+stars_match = (refl, refl, refl)
 
-star_misses : is_match (Plain 102 ∷ Star ∷ Plain 51 ∷ Plain 46 ∷ Plain 100 ∷ Plain 97 ∷ Plain 116 ∷ []) (codes "f0013.data") ≡ false
-unfolding is_match
-star_misses = refl
-
-star_matches_nothing : is_match (Star ∷ []) [] ≡ true
-unfolding is_match
-star_matches_nothing = refl
-
-bracket_reads : read_pattern (codes "[]]") ≡ Ok (OneOf record { negated = false; members = Single 93 ∷ [] } ∷ [])
+classes_read :
+    (read_pattern (codes "[]]") ≡ Ok (OneOf record { negated = false; members = Single 93 ∷ [] } ∷ []))  -- bracket reads
+    × (read_pattern (codes "[!a-c]") ≡ Ok (OneOf record { negated = true; members = Between 97 99 ∷ [] } ∷ []))  -- negated reads
+    × (read_pattern (codes "[a-]") ≡ Ok (OneOf record { negated = false; members = Single 97 ∷ Single 45 ∷ [] } ∷ []))  -- last dash reads
+    × (read_pattern (codes "[-a]") ≡ Ok (OneOf record { negated = false; members = Single 45 ∷ Single 97 ∷ [] } ∷ []))  -- first dash reads
+    -- dash before bracket reads
+    × (read_pattern (codes "[a-]]") ≡ Ok (OneOf record { negated = false; members = Single 97 ∷ Single 45 ∷ [] } ∷ Plain 93 ∷ []))
+    × (read_pattern (codes "[]-a]") ≡ Ok (OneOf record { negated = false; members = Between 93 97 ∷ [] } ∷ []))  -- range from bracket reads
+    × (read_pattern (codes "[--a]") ≡ Ok (OneOf record { negated = false; members = Between 45 97 ∷ [] } ∷ []))  -- range from dash reads
+    × (read_pattern (codes "[!b-a]") ≡ Ok (OneOf record { negated = true; members = Between 98 97 ∷ [] } ∷ []))  -- empty range reads
 unfolding items_past members_past before_closing
-bracket_reads = refl
+classes_read = (refl, refl, refl, refl, refl, refl, refl, refl)
 
-negated_reads : read_pattern (codes "[!a-c]") ≡ Ok (OneOf record { negated = true; members = Between 97 99 ∷ [] } ∷ [])
-unfolding items_past members_past before_closing
-negated_reads = refl
-
-last_dash_reads : read_pattern (codes "[a-]") ≡ Ok (OneOf record { negated = false; members = Single 97 ∷ Single 45 ∷ [] } ∷ [])
-unfolding items_past members_past before_closing
-last_dash_reads = refl
-
-first_dash_reads : read_pattern (codes "[-a]") ≡ Ok (OneOf record { negated = false; members = Single 45 ∷ Single 97 ∷ [] } ∷ [])
-unfolding items_past members_past before_closing
-first_dash_reads = refl
-
-dash_before_bracket_reads : read_pattern (codes "[a-]]") ≡ Ok (OneOf record { negated = false; members = Single 97 ∷ Single 45 ∷ [] } ∷ Plain 93 ∷ [])
-unfolding items_past members_past before_closing
-dash_before_bracket_reads = refl
-
-range_from_bracket_reads : read_pattern (codes "[]-a]") ≡ Ok (OneOf record { negated = false; members = Between 93 97 ∷ [] } ∷ [])
-unfolding items_past members_past before_closing
-range_from_bracket_reads = refl
-
-range_from_dash_reads : read_pattern (codes "[--a]") ≡ Ok (OneOf record { negated = false; members = Between 45 97 ∷ [] } ∷ [])
-unfolding items_past members_past before_closing
-range_from_dash_reads = refl
-
-empty_range_reads : read_pattern (codes "[!b-a]") ≡ Ok (OneOf record { negated = true; members = Between 98 97 ∷ [] } ∷ [])
-unfolding items_past members_past before_closing
-empty_range_reads = refl
-
-negated_takes : item_takes (OneOf record { negated = true; members = Between 97 99 ∷ [] }) 100 ≡ true
-negated_takes = refl
-
-negated_leaves : item_takes (OneOf record { negated = true; members = Between 97 99 ∷ [] }) 98 ≡ false
-negated_leaves = refl
-
-range_takes : item_takes (OneOf record { negated = false; members = Between 93 97 ∷ [] }) 95 ≡ true
-range_takes = refl
-
-empty_range_leaves : item_takes (OneOf record { negated = false; members = Between 98 97 ∷ [] }) 97 ≡ false
-empty_range_leaves = refl
+classes_take :
+    (item_takes (OneOf record { negated = true; members = Between 97 99 ∷ [] }) 100 ≡ true)  -- negated takes
+    × (item_takes (OneOf record { negated = true; members = Between 97 99 ∷ [] }) 98 ≡ false)  -- negated leaves
+    × (item_takes (OneOf record { negated = false; members = Between 93 97 ∷ [] }) 95 ≡ true)  -- range takes
+    × (item_takes (OneOf record { negated = false; members = Between 98 97 ∷ [] }) 97 ≡ false)  -- empty range leaves
+classes_take = (refl, refl, refl, refl)
 
 empty_pattern_reads : read_pattern [] ≡ Ok []
 unfolding items_past
 empty_pattern_reads = refl
 
-empty_class_is_open : read_pattern (codes "x[]") ≡ Err 1
+open_classes :
+    (read_pattern (codes "x[]") ≡ Err 1)  -- empty class is open
+    × (read_pattern (codes "[a") ≡ Err 0)  -- open class
+    × (read_pattern (codes "[!]") ≡ Err 0)  -- negated bracket is open
+    × (read_pattern (233 ∷ 91 ∷ []) ≡ Err 2)  -- the first character is `é`, of two bytes
+    × (read_pattern (codes "[a][") ≡ Err 3)  -- second class is open
 unfolding items_past members_past before_closing encode
-empty_class_is_open = refl
-
-open_class : read_pattern (codes "[a") ≡ Err 0
-unfolding items_past members_past before_closing encode
-open_class = refl
-
-negated_bracket_is_open : read_pattern (codes "[!]") ≡ Err 0
-unfolding items_past members_past before_closing encode
-negated_bracket_is_open = refl
-
--- the first character is `é`, of two bytes
-open_behind_two_bytes : read_pattern (233 ∷ 91 ∷ []) ≡ Err 2
-unfolding items_past members_past before_closing encode
-open_behind_two_bytes = refl
-
-second_class_is_open : read_pattern (codes "[a][") ≡ Err 3
-unfolding items_past members_past before_closing encode
-second_class_is_open = refl
+open_classes = (refl, refl, refl, refl, refl)

@@ -2,25 +2,12 @@
 use Rattle.std.specs.Prelude.{◌≡◌, pos, negsuc, Some, None, refl}
 use Rattle.rx_time.specs.Moments.{filetime_moment, hfs_moment}
 
--- 1601, the tick in front of 1970, 1970, and its first second
-first_tick : (filetime_moment 0).seconds ≡ negsuc 11644473599
-first_tick = refl
-
-tick_in_front : (filetime_moment 116444735999999999).seconds ≡ negsuc 0
-tick_in_front = refl
-
-epoch_of_ticks : (filetime_moment 116444736000000000).seconds ≡ pos 0
-epoch_of_ticks = refl
-
-first_second : (filetime_moment 116444736010000000).seconds ≡ pos 1
-first_second = refl
-
--- none, the second behind 1904, and 1970
-no_moment : hfs_moment 0 ≡ None
-no_moment = refl
-
-behind_1904 : hfs_moment 1 ≡ Some (record { seconds = negsuc 2082844798 })
-behind_1904 = refl
-
-epoch_of_dates : hfs_moment 2082844800 ≡ Some (record { seconds = pos 0 })
-epoch_of_dates = refl
+moments :
+    ((filetime_moment 0).seconds ≡ negsuc 11644473599)  -- 1601, the tick in front of 1970, 1970, and its first second
+    × ((filetime_moment 116444735999999999).seconds ≡ negsuc 0)  -- tick in front
+    × ((filetime_moment 116444736000000000).seconds ≡ pos 0)  -- epoch of ticks
+    × ((filetime_moment 116444736010000000).seconds ≡ pos 1)  -- first second
+    × (hfs_moment 0 ≡ None)  -- none, the second behind 1904, and 1970
+    × (hfs_moment 1 ≡ Some (record { seconds = negsuc 2082844798 }))  -- behind 1904
+    × (hfs_moment 2082844800 ≡ Some (record { seconds = pos 0 }))  -- epoch of dates
+moments = (refl, refl, refl, refl, refl, refl, refl)

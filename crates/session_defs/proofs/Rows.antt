@@ -49,38 +49,23 @@ abbrev fill_and_marks : List Change
 fill_and_marks =
     Write Image 2 (0x58 ∷ 0x58 ∷ 0x58 ∷ []) ∷ Sync ∷ Write Journal 73 (0x44 ∷ []) ∷ Sync ∷ Write Journal 74 (0x44 ∷ []) ∷ Sync ∷ []
 
-all_calls : changes_of (script three_bytes)
-    ≡ Cut 0 ∷ Sync ∷ Write Journal 0 (0 ∷ []) ∷ Sync ∷ Write Journal 1 body ∷ Sync ∷ Write Journal 0 (0x4F ∷ []) ∷ Sync ∷ fill_and_marks
+calls_left :
+    -- all calls
+    (changes_of (script three_bytes) ≡ Cut 0 ∷ Sync ∷ Write Journal 0 (0 ∷ []) ∷ Sync ∷ Write Journal 1 body ∷ Sync ∷ Write Journal 0 (0x4F ∷ []) ∷ Sync ∷ fill_and_marks)
+    × (changes_of (rest_of three_bytes (false ∷ []) false) ≡ fill_and_marks)  -- what is left
+    × (changes_of (rest_of three_bytes (true ∷ []) false) ≡ Sync ∷ Write Journal 74 (0x44 ∷ []) ∷ Sync ∷ [])  -- one mark left
 unfolding computing
-all_calls = refl
-
-what_is_left : changes_of (rest_of three_bytes (false ∷ []) false) ≡ fill_and_marks
-unfolding computing
-what_is_left = refl
-
-one_mark_left : changes_of (rest_of three_bytes (true ∷ []) false) ≡ Sync ∷ Write Journal 74 (0x44 ∷ []) ∷ Sync ∷ []
-unfolding computing
-one_mark_left = refl
+calls_left = (refl, refl, refl)
 
 nothing_left : rest_of three_bytes (true ∷ []) true ≡ []
 nothing_left = refl
 
--- whatever the journal was
-all_filled : changed_all (changes_of (script three_bytes)) (record { image = image; journal = 0x4F ∷ 0x01 ∷ [] })
-    ≡ record { image = image_filled; journal = journal_filled }
+left_filled :
+    -- whatever the journal was
+    (changed_all (changes_of (script three_bytes)) (record { image = image; journal = 0x4F ∷ 0x01 ∷ [] }) ≡ record { image = image_filled; journal = journal_filled })
+    × (done_journal three_bytes ≡ journal_filled)  -- done
+    × (filled three_bytes.ranges image ≡ image_filled)  -- planned
+    -- from no mark on
+    × (changed_all (changes_of (rest_of three_bytes (false ∷ []) false)) (record { image = image; journal = 0x4F ∷ body }) ≡ record { image = image_filled; journal = journal_filled })
 unfolding computing
-all_filled = refl
-
-done : done_journal three_bytes ≡ journal_filled
-unfolding computing
-done = refl
-
-planned : filled three_bytes.ranges image ≡ image_filled
-unfolding computing
-planned = refl
-
--- from no mark on
-rest_filled : changed_all (changes_of (rest_of three_bytes (false ∷ []) false)) (record { image = image; journal = 0x4F ∷ body })
-    ≡ record { image = image_filled; journal = journal_filled }
-unfolding computing
-rest_filled = refl
+left_filled = (refl, refl, refl, refl)

@@ -144,17 +144,13 @@ files_two_blocks : found_t image_of_two_blocks ≡ Ok (
 unfolding computing image_of_two_blocks
 files_two_blocks = refl
 
--- a link of 119 bytes has its target in the inode, and one of 120 has a block
-files_short_link : found_t (image_of_link 119) ≡ Ok (root_t ∷ with_parts 3 Link ((47 ∷ 97 ∷ []) ∷ []) [] ∷ [])
+links_are :
+    -- a link of 119 bytes has its target in the inode, and one of 120 has a block
+    (found_t (image_of_link 119) ≡ Ok (root_t ∷ with_parts 3 Link ((47 ∷ 97 ∷ []) ∷ []) [] ∷ []))
+    -- files long link
+    × (found_t (image_of_link 120) ≡ Ok (root_t ∷ one_part 3 Link ((47 ∷ 97 ∷ []) ∷ []) 120 (record { from = 0; len = 120; kind = Disk; at = 86016 } ∷ []) (record { at = 86136; len = 3976 } ∷ []) ∷ []))
 unfolding computing
-files_short_link = refl
-
-files_long_link : found_t (image_of_link 120) ≡ Ok (
-    root_t
-    ∷ one_part 3 Link ((47 ∷ 97 ∷ []) ∷ []) 120 (record { from = 0; len = 120; kind = Disk; at = 86016 } ∷ []) (record { at = 86136; len = 3976 } ∷ [])
-    ∷ [])
-unfolding computing
-files_long_link = refl
+links_are = (refl, refl)
 
 -- a device has no parts, whatever its pointers are
 files_device : found_t (slice_set image_t 74497 0x21) ≡ Ok (root_t ∷ with_parts 3 Other ((47 ∷ 97 ∷ []) ∷ []) [] ∷ [])
@@ -172,15 +168,12 @@ files_extended : found_t image_of_extended ≡ Ok (
 unfolding computing image_of_extended
 files_extended = refl
 
--- the longest file, all of it a hole, is one piece of zeros, far longer than the image; one byte more is past what the
--- pointers reach
-files_hole : found_t (image_of_hole (0 ∷ 192 ∷ 32 ∷ 64 ∷ 128 ∷ [])) ≡ Ok (root_t ∷ one_part 3 File ((47 ∷ 97 ∷ []) ∷ []) 550831702016 (record { from = 0; len = 550831702016; kind = Zero; at = 0 } ∷ []) [] ∷ [])
+longest_hole :
+    -- the longest file, all of it a hole, is one piece of zeros, far longer than the image; one byte more is past what the pointers reach
+    (found_t (image_of_hole (0 ∷ 192 ∷ 32 ∷ 64 ∷ 128 ∷ [])) ≡ Ok (root_t ∷ one_part 3 File ((47 ∷ 97 ∷ []) ∷ []) 550831702016 (record { from = 0; len = 550831702016; kind = Zero; at = 0 } ∷ []) [] ∷ []))
+    × (found_t (image_of_hole (1 ∷ 192 ∷ 32 ∷ 64 ∷ 128 ∷ [])) ≡ Err (Damaged FileSize 74512))  -- past hole
 unfolding computing
-files_hole = refl
-
-past_hole : found_t (image_of_hole (1 ∷ 192 ∷ 32 ∷ 64 ∷ 128 ∷ [])) ≡ Err (Damaged FileSize 74512)
-unfolding computing
-past_hole = refl
+longest_hole = (refl, refl)
 
 -- the same volume from byte 4,096 of a longer image on
 abbrev at_4096 : Result (List FileEntry) Refusal
@@ -238,36 +231,20 @@ visits_1 = refl
 
 -- ---- what is refused
 
--- the first pointer of inode 3 leads past the end, also where the image is cut there; and images that are too short
-pointer_refused : (found_t (slice_set image_t 74608 64) ≡ Err (Damaged BlockPointer 74608)) × (found_in 86016 (take 86016 image_t) ≡ Err (Damaged BlockPointer 74608))
+refused :
+    -- the first pointer of inode 3 leads past the end, also where the image is cut there; and images that are too short
+    (found_t (slice_set image_t 74608 64) ≡ Err (Damaged BlockPointer 74608)) × (found_in 86016 (take 86016 image_t) ≡ Err (Damaged BlockPointer 74608))
+    × (found_in 1000 (take 1000 image_t) ≡ Err NotThis) × (found_in 0 [] ≡ Err NotThis)  -- other refused
+    -- a block has two fragments; the root is a file
+    × (found_t (slice_set image_t 65592 2) ≡ Err (Damaged SuperField 65592)) × (found_t (slice_set image_t 74241 0x81) ≡ Err (Damaged RootKind 74240))
+    -- "a" names inode 16 of 16; it names inode 4, which is free
+    × (found_t (slice_set image_t 81944 16) ≡ Err (Damaged InodeNumber 81944)) × (found_t (slice_set image_t 81944 4) ≡ Err (Damaged DeadInode 74752))
+    -- inode 3 has a byte more than 2^62; an extended area of a byte more than two blocks; it is a snapshot
+    × (found_t (slice_set (slice_set image_t 74512 1) 74519 64) ≡ Err (Damaged FileSize 74512)) × (found_t (slice_set (slice_set image_t 74588 1) 74589 32) ≡ Err (Damaged FileSize 74588)) × (found_t (slice_set image_t 74586 32) ≡ Err (Unsupported Snapshot 74584))
+    -- the root has 500 bytes; it has a hole; the record of "a" has six bytes
+    × (found_t (slice_set (slice_set image_t 74256 244) 74257 1) ≡ Err (Damaged DirSize 74256)) × (found_t (slice_set (slice_set image_t 81948 6) 81949 0) ≡ Err (Damaged DirEntry 81944))
 unfolding computing image_t
-pointer_refused = (refl, refl)
-
-other_refused : (found_in 1000 (take 1000 image_t) ≡ Err NotThis) × (found_in 0 [] ≡ Err NotThis)
-unfolding computing image_t
-other_refused = (refl, refl)
-
--- a block has two fragments; the root is a file
-super_refused : (found_t (slice_set image_t 65592 2) ≡ Err (Damaged SuperField 65592)) × (found_t (slice_set image_t 74241 0x81) ≡ Err (Damaged RootKind 74240))
-unfolding computing image_t
-super_refused = (refl, refl)
-
--- "a" names inode 16 of 16; it names inode 4, which is free
-number_refused : (found_t (slice_set image_t 81944 16) ≡ Err (Damaged InodeNumber 81944)) × (found_t (slice_set image_t 81944 4) ≡ Err (Damaged DeadInode 74752))
-unfolding computing image_t
-number_refused = (refl, refl)
-
--- inode 3 has a byte more than 2^62; an extended area of a byte more than two blocks; it is a snapshot
-inode_refused : (found_t (slice_set (slice_set image_t 74512 1) 74519 64) ≡ Err (Damaged FileSize 74512))
-    × (found_t (slice_set (slice_set image_t 74588 1) 74589 32) ≡ Err (Damaged FileSize 74588))
-    × (found_t (slice_set image_t 74586 32) ≡ Err (Unsupported Snapshot 74584))
-unfolding computing image_t
-inode_refused = (refl, refl, refl)
-
--- the root has 500 bytes; it has a hole; the record of "a" has six bytes
-directory_refused : (found_t (slice_set (slice_set image_t 74256 244) 74257 1) ≡ Err (Damaged DirSize 74256)) × (found_t (slice_set (slice_set image_t 81948 6) 81949 0) ≡ Err (Damaged DirEntry 81944))
-unfolding computing image_t
-directory_refused = (refl, refl)
+refused = (refl, refl, refl, refl, refl, refl, refl, refl, refl, refl, refl, refl, refl)
 
 hole_refused : found_t (slice_set image_of_two_blocks 74360 0) ≡ Err (Damaged DirSize 74256)
 unfolding computing image_of_two_blocks
