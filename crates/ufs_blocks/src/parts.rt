@@ -77,7 +77,7 @@ fn slack_of(alloc: Global, slack: Vec<Range>) -> Result<RangeList, AllocError>
     RangeList::from_ranges(alloc, slack)
 }
 
-/// The parts with one more, which was found so.
+/// The parts with one more, which was found so. They are kept as long as the tree is, so they take no memory to spare.
 fn with_part(
     alloc: Global,
     role: Role,
@@ -98,12 +98,14 @@ fn with_part(
     let Parted { mut parts, runs: _ } = parted;
     let Laid {
         block: _,
-        pieces,
+        mut pieces,
         slack,
         visited,
         before,
     } = laid;
     let runs = before + pieces.len() as u64 + visited;
+    pieces.shrink_to_fit();
+    parts.reserve_exact(1)?;
     parts.push(Part {
         role,
         name: Text::from_str(alloc, name)?,
