@@ -1,8 +1,8 @@
-//! A test of what no clause says: a content is read over a store in memory.
+//! Tests: a content is read over a store in memory, and pieces are put one behind the other.
 ghost use Rattle.std.specs.Prelude.{◌≡◌, IfOk};
 ghost use Rattle.disk_defs.specs.Memory.{held_in_memory};
 
-use super::read_pieces;
+use super::{put, read_pieces};
 use rx_ranges::{Piece, PieceKind};
 use rx_store::{Fault, MemStore, Store};
 use std::alloc::{AllocError, Global};
@@ -55,5 +55,27 @@ fn a_content_is_read_across_its_pieces(rt: HostRuntime) -> Result<(), Fail> {
         Err(Fault)
     );
     assert_eq!(rt; store.faults(), 1);
+    Ok(())
+}
+
+#[test]
+fn a_piece_that_goes_on_makes_the_last_one_longer(rt: HostRuntime) -> Result<(), Fail> {
+    let mut pieces = Vec::new(rt.alloc());
+    let first = Piece {
+        from: 0,
+        len: 3,
+        kind: PieceKind::Disk,
+        at: 2,
+    };
+    let next = Piece {
+        from: 3,
+        len: 4,
+        kind: PieceKind::Disk,
+        at: 5,
+    };
+    put(&mut pieces, first)?;
+    put(&mut pieces, next)?;
+    assert_eq!(rt; pieces.len(), 1);
+    assert_eq!(rt; pieces[0].len, 7);
     Ok(())
 }
