@@ -1,5 +1,5 @@
 //! The parts of an inode.
-ghost use Rattle.std.specs.Prelude.{◌≡◌, ◌≢◌, ◌+◌, ◌≤◌, ◌++◌, ◌∷◌, [], true, false, None, Err, IfOk, IfErr, IfSome, OnOk, All};
+ghost use Rattle.std.specs.Prelude.{◌≡◌, ◌≢◌, ◌+◌, ◌≤◌, ◌++◌, ◌∷◌, [], true, false, None, Err, IfOk, IfSome, OnOk, All};
 ghost use Rattle.disk_defs.specs.Disk.{size_of, told_image};
 ghost use Rattle.disk_defs.specs.declared.Area.TheVariants.{Image};
 ghost use Rattle.image_defs.specs.Ask.{Done};
@@ -11,7 +11,7 @@ ghost use Rattle.range_defs.specs.declared.TheConstants.{LONGEST_IMAGE};
 ghost use Rattle.rx_store.specs.ReadFaults.{IsReadCounted};
 ghost use Rattle.rx_tree.specs.PartOrder.{ArePartsSorted};
 ghost use Rattle.rx_tree.specs.PartPieces.{ArePlain};
-ghost use Rattle.rx_tree.specs.Within.{ArePartsWithin, ArePiecesWithin, AreRangesWithin};
+ghost use Rattle.rx_tree.specs.Within.{ArePartsWithin};
 ghost use Rattle.ufs_blocks.specs.Placed.{AreExtendedBy, ArePartsOf};
 ghost use Rattle.ufs_blocks.specs.Sections.{IsContentAlone, extended_list, has_content as has_content_by, has_extended as has_extended_by, has_parts as has_parts_by};
 ghost use Rattle.ufs_blocks.specs.UnderWay.{Settles};

@@ -1,9 +1,9 @@
 //! One step of a walk over the pointers of a stream.
-ghost use Rattle.std.specs.Prelude.{◌≡◌, ◌+◌, ◌*◌, ◌^◌, ◌<◌, ◌≤◌, ◌++◌, true, None, IfErr, IfOk, IfSome};
+ghost use Rattle.std.specs.Prelude.{◌≡◌, ◌+◌, ◌*◌, ◌^◌, ◌<◌, ◌≤◌, ◌++◌, None, IfErr, IfOk, IfSome};
 ghost use Rattle.range_defs.specs.declared.TheConstants.{LONGEST_IMAGE};
 ghost use Rattle.rx_store.specs.Answers.{Answers};
-ghost use Rattle.ufs_blocks.specs.UnderWay.{IsUnderWay, HasGone, Settles, led_to};
-ghost use Rattle.ufs_inode_defs.specs.Blocks.{behind as behind_by, counted_runs as counted_runs_by, fragment_place as fragment_place_by, lies_within as lies_within_by, mapped_blocks, most_runs, runs_of as runs_of_by, with_block as with_block_by, with_hole as with_hole_by, with_visit as with_visit_by};
+ghost use Rattle.ufs_blocks.specs.UnderWay.{IsUnderWay, Settles, led_to};
+ghost use Rattle.ufs_inode_defs.specs.Blocks.{behind as behind_by, counted_runs as counted_runs_by, most_runs, runs_of as runs_of_by, with_block as with_block_by, with_hole as with_hole_by, with_visit as with_visit_by};
 ghost use Rattle.ufs_inode_defs.specs.Stream.{allocated_len as allocated_len_by, block_count as block_count_by};
 ghost use Rattle.ufs_inode_defs.specs.Superblock.{wrong_field};
 

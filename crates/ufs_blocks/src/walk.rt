@@ -1,18 +1,16 @@
 //! The walk over the pointers of a stream.
-ghost use Rattle.std.specs.Prelude.{◌≡◌, ◌≢◌, ◌+◌, ◌*◌, ◌^◌, ◌≤◌, ◌∷◌, [], None, Err, IfOk, IfSome, OnOk, length};
+ghost use Rattle.std.specs.Prelude.{◌≡◌, ◌≢◌, ◌+◌, ◌*◌, ◌^◌, ◌≤◌, None, Err, IfOk, OnOk, length};
 ghost use Rattle.bytes_defs.specs.Numbers.{signed_at};
 ghost use Rattle.disk_defs.specs.Disk.{size_of, told_image};
 ghost use Rattle.disk_defs.specs.declared.Area.TheVariants.{Image};
-ghost use Rattle.image_defs.specs.Ask.{look};
-ghost use Rattle.image_defs.specs.Runs.{with_value};
 ghost use Rattle.image_defs.specs.Through.{through};
 ghost use Rattle.image_reads.specs.Steps.{KeptWithin, ReadsAs};
 ghost use Rattle.range_defs.specs.declared.TheConstants.{LONGEST_IMAGE};
 ghost use Rattle.rx_store.specs.ReadFaults.{IsReadCounted};
 ghost use Rattle.ufs_blocks.specs.UnderWay.{HasGone, IsUnderWay, Settles};
-ghost use Rattle.ufs_inode_defs.specs.Blocks.{mapped_blocks as mapped_blocks_by, rising_blocks as rising_blocks_by};
+ghost use Rattle.ufs_inode_defs.specs.Blocks.{mapped_blocks as mapped_blocks_by};
 ghost use Rattle.ufs_inode_defs.specs.Layout.{layout_of, pointer_len as pointer_len_by};
-ghost use Rattle.ufs_inode_defs.specs.Stream.{pointers_from, span as span_by};
+ghost use Rattle.ufs_inode_defs.specs.Stream.{span as span_by};
 ghost use Rattle.ufs_inode_defs.specs.Superblock.{wrong_field};
 
 use crate::laid::{Laid, Pointer};
