@@ -1,25 +1,13 @@
 -- What is read of a block.
-use Rattle.std.specs.Prelude.{◌≡◌, ℕ, Option, None, Some, IfSome, Result, Ok, Err, List, ◌++◌, ◌∷◌, [], refl}
-use Rattle.std.proofs.Common.{ap, sym, subst, append-nil}
+use Rattle.std.specs.Prelude.{ℕ, Option, None, Some, Result, Ok, Err, List, refl}
+use Rattle.std.proofs.Common.{sym, subst, append-nil}
 use Rattle.range_defs.specs.declared.Range.{Range}
-use Rattle.bytes_defs.specs.Bytes.{part}
-use Rattle.image_defs.specs.Ask.{Ask, look, given}
+use Rattle.image_defs.specs.Ask.{given}
 use Rattle.fault_defs.specs.declared.Refusal.{Refusal}
 use Rattle.rx_store.specs.Answers.{Answers}
 use Rattle.rx_store.specs.declared.read_fault.ReadFault.{ReadFault}
 use Rattle.rx_store.specs.declared.read_fault.ReadFault.TheVariants.{Device, NoMemory, NotThis, Damaged, Unsupported, Limit}
 use Rattle.image_reads.specs.Steps.{ReadsAs, IsRead}
-
--- a range whose bytes were read and kept
-pub look_reads : (told : Option (List ℕ)) (before looked : List Range) (at len : ℕ) (bytes : List ℕ) → IfSome told (λ image. bytes ≡ part image at len) → looked ≡ before ++ record { at = at; len = len } ∷ []
-    → (let program : Ask Refusal (List ℕ) = look at len in ReadsAs told program before looked (Ok bytes))
-look_reads None before looked at len bytes read kept = tt
-look_reads (Some image) before looked at len bytes read kept = record { given = ap Ok (sym read); looks = kept }
-
--- what can't be so of a told image says nothing of another
-pub lies_says : {X : Type 0} (told : Option (List ℕ)) (program : Ask Refusal X) (before looked : List Range) (result : Result X ReadFault) (P : Type 0) → IfSome told (λ image. P) → (P → ⊥) → ReadsAs told program before looked result
-lies_says None program before looked result P lies never = tt
-lies_says (Some image) program before looked result P lies never = absurd (never lies)
 
 -- a value or a refusal that reads nothing
 pub given_reads : {X : Type 0} (told : Option (List ℕ)) (looked : List Range) (is : Result X Refusal) (result : Result X ReadFault) → Answers result is → ReadsAs told (given is) looked looked result

@@ -5,7 +5,6 @@ pub mod FoundLaws
 pub mod BlockLaws
 pub mod BlockNames
 pub mod PlaceLaws
-pub mod LieLaws
 pub mod DirectoryLaws
 pub mod LevelLaws
 pub mod RootLaws

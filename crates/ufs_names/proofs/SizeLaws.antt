@@ -1,51 +1,13 @@
--- The sizes of a volume whose superblock has no wrong field.
-use Rattle.std.specs.Prelude.{◌≡◌, ℕ, ◌+◌, ◌-◌, ◌*◌, ◌/◌, ◌%◌, ◌≤◌, ◌≢◌, min, Bool, true, false, not, ◌&&◌, nat_le, if◌then◌else◌, Some, None, List, [], ◌∷◌, refl}
-use Rattle.std.specs.Int.{is_power_of_two}
+-- The content of a directory comes in whole pieces of 512 bytes.
+use Rattle.std.specs.Prelude.{◌≡◌, ℕ, ◌+◌, ◌-◌, ◌*◌, ◌/◌, ◌%◌, ◌≤◌, ◌≢◌, min, None}
 use Rattle.std.specs.Int.RustNames.{count_ones}
 use Rattle.std.proofs.lemmas.Nat.{ones_cat, zero_from_ones}
 use Rattle.std.proofs.lemmas.Bool.Decides.{Decides-eqb}
 use Rattle.std.proofs.Common.{arith, ap, sym, ◌∙◌}
-use Rattle.std.proofs.lemmas.Bool.{leb-true}
-use Rattle.ufs_inode_defs.specs.Superblock.{first_applying, wrong_parts, wrong_field, block_size, is_block_size}
+use Rattle.ufs_inode_defs.specs.Superblock.{wrong_field, block_size}
 use Rattle.ufs_inode_defs.specs.Stream.{content_len}
 use Rattle.ufs_inode_defs.specs.declared.superblock.Super.{Super}
 use Rattle.ufs_inode_defs.proofs.SoundSuper.{is_sound}
-
-it_holds : (test : Bool) → not test ≡ false → test ≡ true
-it_holds true holds = refl
-it_holds false holds = absurd cc
-
-both_hold : (first second : Bool) → (first && second) ≡ true → (first ≡ true) × (second ≡ true)
-both_hold true second both = (refl, both)
-both_hold false second both = absurd cc
-
-greatest_block : (size : ℕ) → not (is_block_size size) ≡ false → size ≤ 65536
-unfolding is_block_size
-greatest_block size none =
-    leb-true size 65536 (both_hold (nat_le 4096 size) (nat_le size 65536) (both_hold (is_power_of_two size) (nat_le 4096 size && nat_le size 65536) (it_holds (is_block_size size) none)).1).1
-
--- the first part of the list doesn't apply
-IsFirstFine : List (Bool × ℕ) → Type 0
-IsFirstFine [] = Unit {0}
-IsFirstFine (part ∷ parts) = part.0 ≡ false
-
-first_fine : (parts : List (Bool × ℕ)) → first_applying parts ≡ None → IsFirstFine parts
-unfolding IsFirstFine
-first_fine [] none = tt
-first_fine (part ∷ parts) none = by_test part.0 none
-  where
-    by_test : (applies : Bool) → (if applies then Some part.1 else first_applying parts) ≡ None → applies ≡ false
-    by_test true none = absurd cc
-    by_test false none = refl
-
-block_at_most : (sup : Super) → wrong_field sup ≡ None → block_size sup ≤ 65536
-unfolding wrong_field IsFirstFine
-block_at_most sup none = greatest_block (block_size sup) (first_fine (wrong_parts sup) none)
-
-pub block_bounds : (sup : Super) → wrong_field sup ≡ None → (4096 ≤ block_size sup) × (block_size sup ≤ 65536)
-block_bounds sup none = ((is_sound sup none).block, block_at_most sup none)
-
--- ---- whole pieces of 512 bytes
 
 power_whole : (n : ℕ) → count_ones n ≡ 1 → 512 ≤ n → n % 512 ≡ 0
 power_whole n one large =
@@ -56,13 +18,10 @@ power_whole n one large =
     let some : count_ones high ≢ 0 = λ none. let zero_high = zero_from_ones high none in omega (arith, zero_high) in
     zero_from_ones low (omega (arith, sum, one, some))
 
-block_is_power : (size : ℕ) → not (is_block_size size) ≡ false → count_ones size ≡ 1
-unfolding is_block_size
-block_is_power size none = (Decides-eqb (count_ones size) 1).0 (both_hold (is_power_of_two size) (nat_le 4096 size && nat_le size 65536) (it_holds (is_block_size size) none)).0
-
 pub block_whole : (sup : Super) → wrong_field sup ≡ None → block_size sup % 512 ≡ 0
-unfolding wrong_field IsFirstFine
-block_whole sup none = power_whole (block_size sup) (block_is_power (block_size sup) (first_fine (wrong_parts sup) none)) (let sound = is_sound sup none in omega (arith, sound.block))
+block_whole sup none =
+    let sound = is_sound sup none in
+    power_whole (block_size sup) ((Decides-eqb (count_ones (block_size sup)) 1).0 sound.power) (omega (arith, sound.block))
 
 whole_content : (unit size index : ℕ) → unit % 512 ≡ 0 → size % 512 ≡ 0 → min unit (size - index * unit) % 512 ≡ 0
 whole_content unit size index units sizes =

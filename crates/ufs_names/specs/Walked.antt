@@ -1,10 +1,8 @@
 -- What holds of a walk over every store, also one that tells nothing.
-use Rattle.std.specs.Prelude.{◌≡◌, ℕ, ◌+◌, ◌*◌, ◌<◌, ◌≤◌, true, All, nat_le, if◌then◌else◌, Some, Result, Ok, Err, List, length}
+use Rattle.std.specs.Prelude.{◌≡◌, ℕ, ◌+◌, ◌*◌, ◌<◌, ◌≤◌, true, All, nat_le, if◌then◌else◌, Result, Ok, Err, List, length}
 pub use Rattle.image_reads.specs.Steps.{KeptWithin}
 pub use Rattle.ufs_blocks.specs.UnderWay.{Settles}
 use Rattle.rx_ranges.specs.Path.{IsPath}
-use Rattle.rx_ranges.specs.declared.pieces.Piece.{Piece}
-use Rattle.piece_defs.specs.Places.{place_through}
 use Rattle.image_defs.specs.Ask.{Done}
 use Rattle.fault_defs.specs.declared.Refusal.{Refusal}
 use Rattle.fault_defs.specs.declared.Refusal.TheVariants as refusal
@@ -35,18 +33,10 @@ pub record IsWalked (sup : Super) (walk : Walk) : Type 0 where
   pub short : path_bytes walk.names ≤ most_path_bytes
   pub runs : walk.runs ≤ most_runs
 
--- a block of a content of so many bytes stands where pieces put its first byte
-pub record IsPlacedBlock (sup : Super) (size : ℕ) (pieces : List Piece) (block : Block) : Type 0 where
+-- a block begins in a content of so many bytes, and what it has of it lies in the volume
+pub record LiesIn (sup : Super) (size : ℕ) (block : Block) : Type 0 where
   pub begins : block.index * block_size sup < size
-  pub place : place_through pieces (block.index * block_size sup) ≡ Some block.at
-
--- a block begins in a content of so many bytes
-abbrev pub BeginsIn : Super → ℕ → Block → Type 0
-BeginsIn sup size block = block.index * block_size sup < size
-
--- what a block has of such a content lies in the volume
-abbrev pub LiesIn : Super → ℕ → Block → Type 0
-LiesIn sup size block = block.at + content_len sup size block.index ≤ sup.at + sup.len
+  pub inside : block.at + content_len sup size block.index ≤ sup.at + sup.len
 
 -- a path that isn't too long
 abbrev pub limited_path : List ℕ → Result (List ℕ) Refusal

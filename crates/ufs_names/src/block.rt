@@ -2,7 +2,6 @@
 ghost use Rattle.std.specs.Prelude.{◌≡◌, ◌+◌, ◌*◌, ◌%◌, ◌^◌, ◌<◌, ◌≤◌, None, All, IfOk, IfSome, OnOk, length};
 ghost use Rattle.disk_defs.specs.Disk.{size_of, told_image};
 ghost use Rattle.disk_defs.specs.declared.Area.TheVariants.{Image};
-ghost use Rattle.image_defs.specs.Ask.{look};
 ghost use Rattle.image_defs.specs.Through.{through};
 ghost use Rattle.image_reads.specs.Steps.{ReadsAs};
 ghost use Rattle.range_defs.specs.declared.TheConstants.{LONGEST_IMAGE};
@@ -12,50 +11,18 @@ ghost use Rattle.ufs_inode.specs.Block.{IsBlockOf};
 ghost use Rattle.ufs_inode_defs.specs.Stream.{content_len as content_len_by};
 ghost use Rattle.ufs_inode_defs.specs.Superblock.{block_size as block_size_by, wrong_field};
 ghost use Rattle.ufs_volume_defs.specs.Names.{block_names as block_names_by, entry_name as entry_name_by};
-ghost use Rattle.ufs_names.specs.Walked.{BeginsIn, IsWalked, KeptWithin, LiesIn};
+ghost use Rattle.ufs_names.specs.Walked.{IsWalked, KeptWithin, LiesIn};
 
 use crate::entry::{Block, Place, entry_name};
 use crate::name::Name;
 use crate::seen::Seen;
-use crate::sizes::content_len;
 use crate::walk::Walk;
-use range_defs::Range;
-use rx_ranges::Items;
-use rx_store::{Area, ReadFault, Sort, Store};
+use image_reads::bytes_at;
+use rx_store::{ReadFault, Store};
 use std::alloc::Global;
 use ufs_directory::{Entry, leading_entries};
 use ufs_inode_defs::superblock::Super;
-
-/// Reads the bytes of a content of `size` bytes in a block. That the block lies in the volume is known where the store tells its
-/// image, and tested here for other stores.
-fn read_block<S: Store>(
-    alloc: Global,
-    store: &mut S,
-    sup: &Super,
-    size: u64,
-    block: &Block,
-    looked: &mut Vec<Range>,
-) -> Result<Items<u8>, ReadFault>
-    requires sound { wrong_field sup.now ≡ None }
-    requires inside { sup.now.at + sup.now.len ≤ size_of Image (S.state store.old) }
-    requires near { sup.now.at + sup.now.len ≤ LONGEST_IMAGE }
-    requires lies { IfSome (told_image (S.state store.old)) (λ image. LiesIn sup.now size block.now) }
-    ensures reads { ReadsAs (told_image (S.state store.old)) (look block.now.at (content_len_by sup.now size block.now.index)) looked.old.items looked.new.items result }
-    ensures long { IfOk result (λ bytes. length bytes ≡ content_len_by sup.now size block.now.index) }
-    ensures within { OnOk result (LiesIn sup.now size block.now) }
-    ensures kept { OnOk result (KeptWithin (sup.now.at + sup.now.len) looked.old.items looked.new.items) }
-    ensures same { S.state store.new ≡ S.state store.old }
-    ensures counted { IsReadCounted Image result (S.faults store.old) (S.faults store.new) }
-{
-    let len = content_len(sup, size, block.index);
-    if block.at.saturating_add(len) > sup.at + sup.len {
-        return Err(ReadFault::Damaged(Sort::BlockPointer, block.at));
-    }
-    let mut bytes = vec![in alloc; 0; len as usize]?;
-    store.read_at(Area::Image, block.at, &mut bytes)?;
-    looked.push(Range { at: block.at, len })?;
-    Ok(Items::from_vec(bytes))
-}
+use ufs_super::sizes::content_len;
 
 /// The names that entries of a block give, behind those that were found.
 fn entries_names<S: Store>(
@@ -103,8 +70,7 @@ pub(crate) fn block_names<S: Store>(
     requires path { IsPath directory.now.path }
     requires whole { directory.now.inode.size % 512 ≡ 0 }
     requires short { directory.now.inode.size ≤ 4611686018427387904 }
-    requires begins { BeginsIn sup.now directory.now.inode.size block.now }
-    requires lies { IfSome (told_image (S.state store.old)) (λ image. LiesIn sup.now directory.now.inode.size block.now) }
+    requires lies { LiesIn sup.now directory.now.inode.size block.now }
     requires walked { IsWalked sup.now walk }
     requires inodes { IsBlockOf (told_image (S.state store.old)) seen.old.inodes }
     ensures reads { ReadsAs (told_image (S.state store.old)) (block_names_by sup.now directory.now walk block.now) seen.old.looked.items seen.new.looked.items result }
@@ -114,15 +80,9 @@ pub(crate) fn block_names<S: Store>(
     ensures same { S.state store.new ≡ S.state store.old }
     ensures counted { IsReadCounted Image result (S.faults store.old) (S.faults store.new) }
 {
-    let bytes = read_block(
-        alloc,
-        store,
-        sup,
-        directory.inode.size,
-        block,
-        &mut seen.looked,
-    )?;
-    let entries = leading_entries(alloc, sup.order, block.at, bytes.items())?;
+    let len = content_len(sup, directory.inode.size, block.index);
+    let bytes = bytes_at(alloc, store, block.at, len, &mut seen.looked)?;
+    let entries = leading_entries(alloc, sup.order, block.at, &bytes)?;
     let place = Place { directory, block };
     entries_names(alloc, store, sup, &place, walk, entries.items(), seen)
 }

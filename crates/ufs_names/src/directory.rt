@@ -1,5 +1,5 @@
 //! The names that the entries of a directory give.
-ghost use Rattle.std.specs.Prelude.{◌≡◌, ◌+◌, ◌%◌, ◌≤◌, None, All, IfOk, IfSome, OnOk, length};
+ghost use Rattle.std.specs.Prelude.{◌≡◌, ◌+◌, ◌%◌, ◌≤◌, None, All, IfOk, OnOk};
 ghost use Rattle.disk_defs.specs.Disk.{size_of, told_image};
 ghost use Rattle.disk_defs.specs.declared.Area.TheVariants.{Image};
 ghost use Rattle.image_defs.specs.Through.{through};
@@ -10,14 +10,14 @@ ghost use Rattle.rx_store.specs.ReadFaults.{IsReadCounted};
 ghost use Rattle.ufs_inode.specs.Block.{IsBlockOf};
 ghost use Rattle.ufs_inode_defs.specs.Superblock.{wrong_field};
 ghost use Rattle.ufs_volume_defs.specs.Names.{block_names as block_names_by, directory_names as directory_names_by};
-ghost use Rattle.ufs_names.specs.Walked.{BeginsIn, IsNamed, IsWalked, KeptWithin, LiesIn};
+ghost use Rattle.ufs_names.specs.Walked.{IsNamed, IsWalked, KeptWithin, LiesIn};
 
 use crate::block::block_names;
 use crate::entry::Block;
 use crate::name::Name;
 use crate::places::directory_blocks;
 use crate::seen::Seen;
-use crate::sizes::{pointer_rows, size_place};
+use crate::sizes::size_place;
 use crate::walk::Walk;
 use rx_store::{ReadFault, Sort, Store};
 use std::alloc::Global;
@@ -40,8 +40,7 @@ fn blocks_names<S: Store>(
     requires path { IsPath directory.now.path }
     requires whole { directory.now.inode.size % 512 ≡ 0 }
     requires short { directory.now.inode.size ≤ 4611686018427387904 }
-    requires begin { All (BeginsIn sup.now directory.now.inode.size) blocks.now }
-    requires lie { IfSome (told_image (S.state store.old)) (λ image. All (LiesIn sup.now directory.now.inode.size) blocks.now) }
+    requires lie { All (LiesIn sup.now directory.now.inode.size) blocks.now }
     requires walked { IsWalked sup.now walk }
     requires inodes { IsBlockOf (told_image (S.state store.old)) seen.old.inodes }
     ensures reads { ReadsAs (told_image (S.state store.old)) (through (block_names_by sup.now directory.now) walk blocks.now) seen.old.looked.items seen.new.looked.items result }
@@ -80,7 +79,6 @@ pub(crate) fn directory_names<S: Store>(
     ensures counted { IsReadCounted Image result (S.faults store.old) (S.faults store.new) }
 {
     let inode = &directory.inode;
-    pointer_rows(inode);
     if inode.size % 512 != 0 {
         return Err(ReadFault::Damaged(Sort::DirSize, size_place(sup, inode)));
     }

@@ -14,7 +14,7 @@ ghost use Rattle.ufs_names.specs.Walked.{IsInodeOf, IsNamed, IsWalked, KeptWithi
 use crate::name::Name;
 use crate::path::path_of;
 use crate::seen::Seen;
-use crate::sizes::{block_size, is_directory};
+use crate::sizes::is_directory;
 use crate::walk::Walk;
 use rx_store::{ReadFault, Sort, Store};
 use std::alloc::Global;
@@ -23,6 +23,7 @@ use ufs_directory::Entry;
 use ufs_inode::look_at_inode;
 use ufs_inode_defs::inode::Inode;
 use ufs_inode_defs::superblock::Super;
+use ufs_super::sizes::block_size;
 
 /// A block of a directory's content: its number there, and its place in the image.
 #[derive(Debug, Drop)]

@@ -4,17 +4,19 @@ ghost use Rattle.piece_defs.specs.Places.{AreWithin, IsWithin, place_in as place
 ghost use Rattle.range_defs.specs.declared.TheConstants.{LONGEST_IMAGE};
 ghost use Rattle.rx_store.specs.Answers.{Answers};
 ghost use Rattle.ufs_inode_defs.specs.Superblock.{wrong_field};
+ghost use Rattle.ufs_blocks.specs.Placed.{DoBlocksLieWithin};
 ghost use Rattle.ufs_volume_defs.specs.Names.{directory_blocks as directory_blocks_by};
-ghost use Rattle.ufs_names.specs.Walked.{IsPlacedBlock};
+ghost use Rattle.ufs_names.specs.Walked.{LiesIn};
 ghost use Rattle.ufs_names.specs.Passed.{HasPassed, IsInFront};
 
 use crate::entry::Block;
-use crate::sizes::{block_count, block_size, size_place};
+use crate::sizes::size_place;
 use rx_ranges::{Items, Piece, PieceKind};
 use rx_store::{ReadFault, Sort};
 use std::alloc::Global;
 use ufs_inode_defs::inode::Inode;
 use ufs_inode_defs::superblock::Super;
+use ufs_super::sizes::{block_count, block_size};
 
 /// Whether a byte of a content stands in front of a piece's end.
 fn is_in_front(byte: u64, piece: &Piece) -> bool
@@ -71,8 +73,9 @@ pub(crate) fn directory_blocks(
     requires sound { wrong_field sup.now ≡ None }
     requires stands { inode.now.at ≤ LONGEST_IMAGE }
     requires within { AreWithin LONGEST_IMAGE pieces.now }
+    requires lie { DoBlocksLieWithin sup.now inode.now.size pieces.now }
     ensures blocks { Answers result (directory_blocks_by sup.now inode.now pieces.now) }
-    ensures placed { IfOk result (All (IsPlacedBlock sup.now inode.now.size pieces.now)) }
+    ensures lie { IfOk result (All (LiesIn sup.now inode.now.size)) }
     ensures calm { result ≢ Err ReadFault.Device }
 {
     let unit = block_size(sup);

@@ -1,10 +1,12 @@
-use Rattle.std.specs.Prelude.{length}
+use Rattle.std.specs.Prelude.{[], length}
 use Rattle.std.proofs.Common.{◌+◌, ap, ◌∙◌, arith}
 use Rattle.disk_defs.specs.Disk.{told_image}
 use Rattle.ufs_inode_defs.specs.Blocks.{runs_of}
 use Rattle.ufs_volume_defs.specs.Names.{with_runs}
 use Rattle.ufs_names.proofs.WalkLaws.{kept_then}
-use Rattle.ufs_names.proofs.LieLaws.{size_short, listed_lie}
+use Rattle.image_defs.specs.Ask.{result_of}
+use Rattle.ufs_inode_defs.proofs.InodeLaws.{sound_gives}
+use Rattle.ufs_inode_defs.proofs.StreamLaws.{short_size}
 use Rattle.ufs_names.proofs.DirectoryLaws.{named_stands, not_whole, laid_stops, blocks_stop, blocks_go}
 use Rattle.ufs_names.proofs.directory.directory_names.Goals as goal
 
@@ -31,7 +33,7 @@ pub directory_blocks-requires-clause-stands : goal.directory_blocks-requires-cla
 directory_blocks-requires-clause-stands g c = named_stands c.args.sup.now c.args.directory.now c.directory.inside.inode c.requires.named c.requires.near (ap (λ name. name.inode) c.directory.view_is)
 
 pub blocks_names-requires-clause-short : goal.blocks_names-requires-clause-short
-blocks_names-requires-clause-short g c = size_short c.args.sup.now c.args.directory.now.inode c.requires.named.inode.sound
+blocks_names-requires-clause-short g c = short_size c.args.sup.now c.args.directory.now.inode (sound_gives [] c.args.sup.now c.args.directory.now.inode tt (ap (λ program. result_of [] program) c.requires.named.inode.sound)).short
 
 pub returns-in_err-blocks-clause-reads : goal.returns-in_err-blocks-clause-reads
 returns-in_err-blocks-clause-reads g c =
@@ -39,13 +41,6 @@ returns-in_err-blocks-clause-reads g c =
     (ap (λ name. name.inode) c.directory.view_is) (ap (λ walk. walk.runs) c.walk.view_is) c.if-inode-ne0.false c.content_blocks.new.looked.items c.in_ok-laid.laid c.deref.result.now
     (c.deref.ensures.value ∙ ap (λ laid. laid.pieces) c.laid.view_is) c.in_ok-laid.ensures.reads
     c.from_residual-in_err-blocks.result c.in_err-blocks.field-0.0 c.from_residual-in_err-blocks.ensures.0 c.from_residual-in_err-blocks.ensures.1 c.in_err-blocks.ensures.blocks
-
-pub blocks_names-requires-clause-lie : goal.blocks_names-requires-clause-lie
-blocks_names-requires-clause-lie g c =
-    listed_lie (told_image (g.S.Store.state c.args.store.now)) (told_image (g.S.Store.state c.content_blocks.new.store)) c.args.sup.now c.args.directory.now.inode c.directory.inside.inode c.walk.inside.runs
-    c.args.seen.now.looked.items c.content_blocks.new.looked.items c.in_ok-laid.laid c.deref.result.now c.in_ok-blocks.blocks c.items.result.now
-    (ap told_image c.in_ok-laid.ensures.same) (ap (λ name. name.inode) c.directory.view_is) (c.deref.ensures.value ∙ ap (λ laid. laid.pieces) c.laid.view_is) c.items.ensures
-    c.requires.sound c.requires.named.inode.sound c.pointer_rows.ensures.direct c.pointer_rows.ensures.indirect c.in_ok-laid.ensures.reads c.in_ok-laid.ensures.within c.in_ok-blocks.ensures.placed
 
 pub returns-clause-reads : goal.returns-clause-reads
 returns-clause-reads g c =

@@ -2,7 +2,7 @@ use Rattle.std.proofs.Common.{◌*◌}
 use Rattle.std.specs.List.{All}
 use Rattle.ufs_inode_defs.specs.Superblock.{block_size}
 use Rattle.ufs_names.specs.Passed.{HasPassed}
-use Rattle.ufs_names.specs.Walked.{IsPlacedBlock}
+use Rattle.ufs_names.specs.Walked.{LiesIn}
 use Rattle.ufs_names.proofs.PlaceLaws.{AreFound}
 use Rattle.ufs_names.proofs.places.directory_blocks.Given as goal
 
@@ -10,6 +10,6 @@ use Rattle.ufs_names.proofs.places.directory_blocks.Given as goal
 abbrev pub invariant-loop-index : goal.invariant-loop-index
 invariant-loop-index l = record {
   found : AreFound l.sup l.inode l.pieces l.blocks.items l.index;
-  placed : All (IsPlacedBlock l.sup l.inode.size l.pieces) l.blocks.items;
+  lie : All (LiesIn l.sup l.inode.size) l.blocks.items;
   passed : HasPassed l.pieces l.passed (l.index * block_size l.sup);
 }
