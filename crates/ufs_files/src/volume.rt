@@ -60,7 +60,7 @@ fn read_volume<S: Store>(
 {
     let superblock = look_for_super(store, at, len, looked)?;
     let walk = read_names(alloc, store, &superblock, looked)?;
-    let filed = read_files(alloc, store, &superblock, number, walk.names, looked)?;
+    let filed = read_files(alloc, store, &superblock, number, walk.into_names(), looked)?;
     Ok(FoundVolume {
         superblock,
         files: Files::from_vec(filed.files),

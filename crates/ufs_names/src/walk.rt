@@ -79,6 +79,13 @@ impl Walk {
         self
     }
 
+    /// The names alone. What the walk keeps to be fast takes no more memory.
+    pub fn into_names(self) -> Vec<Name>
+        ensures { result.items ≡ self.names }
+    {
+        self.names
+    }
+
     /// Whether the inode of a number has a name.
     pub(crate) fn knows(&self, number: u32) -> bool
         ensures { result ≡ is_known number self.now.names }
