@@ -6,3 +6,4 @@ pub mod FileLaws
 pub mod PassLaws
 pub mod VolumeLaws
 pub mod ToldLaws
+pub mod RestLaws

@@ -14,6 +14,7 @@
 
 mod file;
 mod group;
+mod rest;
 mod second;
 mod tree;
 mod volume;

@@ -18,6 +18,7 @@ ghost use Rattle.ufs_files.specs.Filed.{group_file, with_group, IsGoodGroup, Has
 
 use crate::file::file_from;
 use crate::group::{Group, groups_of};
+use crate::rest::Rest;
 use range_defs::Range;
 use rx_store::{ReadFault, Store};
 use rx_tree::FileEntry;
@@ -133,9 +134,9 @@ pub(crate) fn read_files<S: Store>(
     ensures same { S.state store.new ≡ S.state store.old }
     ensures counted { IsReadCounted Image result (S.faults store.old) (S.faults store.new) }
 {
-    let groups = groups_of(alloc, names)?;
+    let mut groups = Rest::of(groups_of(alloc, names)?);
     let mut filed = Filed::none(alloc);
-    for group in groups {
+    while let Some(group) = groups.next() {
         filed = group_file(alloc, store, sup, volume, filed, group, looked)?;
     }
     Ok(filed)
