@@ -1,8 +1,7 @@
 -- Whether a journal stands open, by its length and the first of its bytes.
-use Rattle.std.proofs.Common.{◌≡◌, ℕ, ◌<◌, ◌≤◌, Bool, true, false, nat_eq, Option, None, Some, IfSome, List, [], ◌∷◌, length, take, slice_index, refl, sym, ◌∙◌, ap, arith}
+use Rattle.std.proofs.Common.{◌≡◌, ℕ, ◌<◌, ◌≤◌, Bool, true, false, nat_eq, Option, None, Some, IfSome, List, [], ◌∷◌, length, slice_index, refl, sym, ◌∙◌, ap, arith}
 use Rattle.std.proofs.lemmas.Bool.{eqb-true, eqb-false}
 use Rattle.bytes_defs.specs.Bytes.{part}
-use Rattle.journal_defs.specs.Form.{IsOpen}
 use Rattle.journal_defs.specs.declared.TheConstants.{OPEN_GATE}
 use Rattle.journal_format.specs.Says.{TellsIfOpen}
 

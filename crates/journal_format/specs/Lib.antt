@@ -1,3 +1,4 @@
 pub mod Filled
 pub mod Header
 pub mod Says
+pub mod Parts

@@ -19,20 +19,6 @@ Says bytes (Err (OtherLength kept found)) = ⊥
 Says bytes (Err Device) = Unit {0}
 Says bytes (Err NoMemory) = Unit {0}
 
--- the same of an answer for which no call is made
-abbrev pub Decodes : List ℕ → Result JournalState JournalFault → Type 0
-Decodes bytes (Ok state) = Says bytes (Ok state)
-Decodes bytes (Err NotOpen) = Says bytes (Err NotOpen)
-Decodes bytes (Err (Bad at)) = Says bytes (Err (Bad at))
-Decodes bytes (Err (OtherLength kept found)) = ⊥
-Decodes bytes (Err Device) = ⊥
-Decodes bytes (Err NoMemory) = Unit {0}
-
--- what the answer to a header says of a journal with it: it may still be open, or it isn't, or a check of it fails
-abbrev pub SaysOfHeader : {X : Type 0} → List ℕ → Result X JournalFault → Type 0
-SaysOfHeader bytes (Ok value) = Unit {0}
-SaysOfHeader bytes (Err fault) = Decodes bytes (Err fault)
-
 -- a state of a journal of this size: its plan is one that a journal can hold, and has a mark for each group of its ranges
 pub record IsState (size : ℕ) (state : JournalState) : Type 0 where
   pub is_plan : IsPlan state.plan
@@ -44,7 +30,7 @@ abbrev pub FailsWith : List Check → JournalFault → Type 0
 FailsWith checks NotOpen = ⊥
 FailsWith checks (Bad at) = first_failing checks ≡ Some at
 FailsWith checks (OtherLength kept found) = ⊥
-FailsWith checks Device = ⊥
+FailsWith checks Device = Unit {0}
 FailsWith checks NoMemory = Unit {0}
 
 -- what an answer says of them

@@ -111,17 +111,17 @@ pub(crate) fn header_checks(bytes: &[u8], len: u64) -> [(u64, bool); 6]
     ]
 }
 
-/// The range at a place.
-pub(crate) fn claim_at(bytes: &[u8], at: usize) -> Claim
-    requires { at + 24 ≤ length bytes.now }
-    ensures { result ≡ claim_in bytes.now at }
+/// The range in its bytes.
+pub(crate) fn claim_of(bytes: &[u8]) -> Claim
+    requires { 24 ≤ length bytes.now }
+    ensures { result ≡ claim_in bytes.now 0 }
 {
     Claim {
         range: Range {
-            at: u64_at(Order::Little, bytes, at),
-            len: u64_at(Order::Little, bytes, at + 8),
+            at: u64_at(Order::Little, bytes, 0),
+            len: u64_at(Order::Little, bytes, 8),
         },
-        rule: u32_at(Order::Little, bytes, at + 16),
-        fill: bytes[at + 20],
+        rule: u32_at(Order::Little, bytes, 16),
+        fill: bytes[20],
     }
 }

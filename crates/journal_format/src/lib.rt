@@ -2,7 +2,7 @@
 //!
 //! The form is that of `journal_defs`. `read_journal` answers the plan and the marks of a journal that stands open; NotOpen
 //! where it doesn't; and Bad with the place of the first check that fails. A journal's counts are tested against its size
-//! before memory is taken for them. `journal_piece` fills a buffer with the bytes of a plan's first journal from a place on, so
+//! before memory is taken for them, and it is read through a window of 65,536 bytes. `journal_piece` fills a buffer with the bytes of a plan's first journal from a place on, so
 //! that it is written in pieces.
 //!
 //!     let state = read_journal(alloc, &mut store)?;
@@ -19,6 +19,7 @@ mod piece;
 mod ranges;
 mod read;
 mod state;
+mod window;
 
 pub use fault::JournalFault;
 pub use open::stands_open;

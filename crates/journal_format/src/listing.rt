@@ -1,20 +1,27 @@
 //! The listing of a journal.
-ghost use Rattle.std.specs.Prelude.{◌≡◌, ◌+◌, ◌*◌, ◌<◌, ◌≤◌, ◌==◌, ◌&&◌, ◌||◌, ◌∷◌, [], ◌++◌, true, false, IfOk, MatchOption, length};
+ghost use Rattle.std.specs.Prelude.{◌≡◌, ◌≢◌, ◌+◌, ◌*◌, ◌^◌, ◌<◌, ◌≤◌, ◌==◌, ◌&&◌, ◌||◌, ◌∷◌, ℕ, None, Err, List, [], ◌++◌, true, false, take, IfOk, OnOk, MatchOption, length};
 ghost use Rattle.std.specs.List.{list_all};
 ghost use Rattle.bytes_defs.specs.Bytes.{part};
 ghost use Rattle.bytes_defs.specs.Numbers.{little_at};
+ghost use Rattle.disk_defs.specs.Disk.{size_of, told_of};
+ghost use Rattle.disk_defs.specs.declared.Area.TheVariants.{Journal};
 ghost use Rattle.journal_defs.specs.Checks as table;
 ghost use Rattle.journal_defs.specs.Reading as reading;
-ghost use Rattle.journal_defs.specs.Reading.{path_len_in, path_in, line_in, line_end, lines_in};
-ghost use Rattle.journal_format.specs.Says.{FailsAs};
+ghost use Rattle.journal_defs.specs.Reading.{path_len_in, line_in, line_end, lines_in};
+ghost use Rattle.journal_format.specs.Header.{front_in};
+ghost use Rattle.journal_format.specs.Parts.{Always, IsWindow, ReadsPart};
+ghost use Rattle.journal_format.specs.Says.{FailsAs, IsReadCounted};
 ghost use Rattle.rx_ranges.specs.Path.{begins_with_slash, is_printed};
+ghost use Rattle.rx_ranges.specs.PlanChecks.{listed_len};
 
 use crate::fault::JournalFault;
 use crate::fields::first_failing;
 use crate::ranges::is_rule;
+use crate::window::Window;
 use bytes_defs::Order;
 use bytes_defs::field::{u16_at, u32_at};
 use rx_ranges::{ListKind, Listed, Text};
+use rx_store::Store;
 use std::alloc::Global;
 
 /// Whether no byte of a path is a control character.
@@ -65,100 +72,194 @@ fn kind_of(byte: u8) -> ListKind
     }
 }
 
-/// Where a line ends.
-fn end_of(bytes: &[u8], at: usize) -> usize
-    requires { at + 7 ≤ length bytes.now }
-    ensures { result ≡ line_end bytes.now at }
-{
-    at + (7 + usize::from(u16_at(Order::Little, bytes, at + 5)))
+/// What stands of a line in front of its path.
+#[derive(Clone, Copy)]
+pub(crate) struct Front {
+    kind: ListKind,
+    rule: u32,
+    path_len: u16,
 }
 
-/// The checks of a line in front of its path, where 7 of the listing's bytes are left for it.
-#[tactic(auto, unfolding(journal_defs::specs::Checks::line_checks))]
-fn front_checks(bytes: &[u8], end: usize, at: usize) -> [(u64, bool); 3]
-    requires room { at + 7 ≤ end }
-    requires inside { end ≤ length bytes.now }
-    ensures { table.line_checks bytes.now end at ≡ result ++ (at + 7, table.is_path (path_in bytes.now at)) ∷ [] }
+/// What stands in the 7 bytes of a line in front of its path.
+fn front_of(bytes: &[u8]) -> Front
+    requires { length bytes.now ≡ 7 }
+    ensures { result ≡ front_in bytes.now 0 }
 {
-    let kind = bytes[at];
-    let place = at as u64;
+    Front {
+        kind: kind_of(bytes[0]),
+        rule: u32_at(Order::Little, bytes, 1),
+        path_len: u16_at(Order::Little, bytes, 5),
+    }
+}
+
+/// Whether this is the byte of a kind of line.
+fn is_kind(byte: u8) -> bool
+    ensures { result ≡ (byte == 1 || byte == 2) }
+{
+    byte == 1 || byte == 2
+}
+
+/// The checks of a line in front of its path.
+fn front_checks(bytes: &[u8], at: u64, end: u64) -> [(u64, bool); 3]
+    requires bytes { length bytes.now ≡ 7 }
+    requires room { at + 7 ≤ end }
+    requires end { end < 2 ^ 32 }
+    ensures are { (whole : List ℕ) → part whole at 7 ≡ bytes.now → result ≡ take 3 (table.line_checks whole end at) }
+    ensures inside { table.first_failing result ≡ None → at + (7 + path_len_in bytes.now 0) ≤ end }
+{
+    let kind = bytes[0];
+    let path_len = u64::from(u16_at(Order::Little, bytes, 5));
     [
-        (place, kind == 1 || kind == 2),
+        (at, is_kind(kind)),
         (
-            place + 1,
-            is_listed_rule(kind, u32_at(Order::Little, bytes, at + 1)),
+            at + 1,
+            is_listed_rule(kind, u32_at(Order::Little, bytes, 1)),
         ),
-        (place + 5, end_of(bytes, at) <= end),
+        (at + 5, at + (7 + path_len) <= end),
     ]
 }
 
-/// The bytes of the path of a line.
-#[tactic(auto, unfolding(bytes_defs::specs::Bytes::part))]
-fn path_at(bytes: &[u8], at: usize) -> &[u8]
-    requires { line_end bytes.now at ≤ length bytes.now }
-    ensures { result.now ≡ path_in bytes.now at }
+/// What stands of a line in front of its path, where it passes its checks.
+fn front_at(bytes: &[u8], at: u64, end: u64) -> Result<Front, JournalFault>
+    requires bytes { length bytes.now ≡ 7 }
+    requires room { at + 7 ≤ end }
+    requires end { end < 2 ^ 32 }
+    ensures says { (whole : List ℕ) → part whole at 7 ≡ bytes.now → FailsAs (take 3 (table.line_checks whole end at)) result }
+    ensures is { IfOk result (λ front. front ≡ front_in bytes.now 0) }
+    ensures ends { IfOk result (λ front. at + (7 + front.path_len) ≤ end) }
+    ensures calm { result ≢ Err JournalFault.Device }
 {
-    let len = usize::from(u16_at(Order::Little, bytes, at + 5));
-    &bytes[at + 7..at + 7 + len]
+    let checks = front_checks(bytes, at, end);
+    match first_failing(&checks) {
+        None => Ok(front_of(bytes)),
+        Some(bad) => Err(JournalFault::Bad { at: bad }),
+    }
 }
 
-/// The line at a place, where its path is one.
-fn line_of(alloc: Global, bytes: &[u8], at: usize) -> Result<Listed, JournalFault>
-    requires { line_end bytes.now at ≤ length bytes.now }
-    ensures says { FailsAs ((at + 7, table.is_path (path_in bytes.now at)) ∷ []) result }
-    ensures is { IfOk result (λ line. line ≡ line_in bytes.now at) }
+/// Reads what stands of a line in front of its path, where it passes its checks.
+fn read_front<S: Store>(
+    window: &mut Window,
+    store: &mut S,
+    at: u64,
+    end: u64,
+) -> Result<Front, JournalFault>
+    requires window { IsWindow (told_of Journal (S.state store.old)) (size_of Journal (S.state store.old)) window.old }
+    requires begins { at ≤ end }
+    requires inside { end ≤ size_of Journal (S.state store.old) }
+    requires end { end < 2 ^ 32 }
+    ensures read { ReadsPart (told_of Journal (S.state store.old)) at (λ _. at + 7) Always
+        (λ whole. take 3 (table.line_checks whole end at)) (λ front whole. front ≡ front_in whole at) result }
+    ensures ends { IfOk result (λ front. at + (7 + front.path_len) ≤ end) }
+    ensures window { OnOk result (IsWindow (told_of Journal (S.state store.old)) (size_of Journal (S.state store.old)) window.new) }
+    ensures same { S.state store.new ≡ S.state store.old }
+    ensures counted { IsReadCounted result (S.faults store.old) (S.faults store.new) }
 {
-    let Some(path) = as_path(path_at(bytes, at)) else {
-        return Err(JournalFault::Bad { at: at as u64 + 7 });
+    if end - at < 7 {
+        return Err(JournalFault::Bad { at });
+    }
+    window.reach(store, at, 7)?;
+    front_at(window.bytes_at(at, 7), at, end)
+}
+
+/// The path in these bytes, which stand at a place, where they are one.
+fn path_of(alloc: Global, bytes: &[u8], at: u64) -> Result<Text, JournalFault>
+    ensures says { FailsAs ((at, table.is_path bytes.now) ∷ []) result }
+    ensures is { IfOk result (λ path. path ≡ bytes.now) }
+    ensures calm { result ≢ Err JournalFault.Device }
+{
+    let Some(path) = as_path(bytes) else {
+        return Err(JournalFault::Bad { at });
     };
+    Ok(Text::from_str(alloc, path)?)
+}
+
+/// Reads the path at a place.
+fn read_path<S: Store>(
+    alloc: Global,
+    window: &mut Window,
+    store: &mut S,
+    at: u64,
+    len: usize,
+) -> Result<Text, JournalFault>
+    requires window { IsWindow (told_of Journal (S.state store.old)) (size_of Journal (S.state store.old)) window.old }
+    requires inside { at + len ≤ size_of Journal (S.state store.old) }
+    requires short { len ≤ 65535 }
+    ensures read { ReadsPart (told_of Journal (S.state store.old)) at (λ _. at + len) Always
+        (λ whole. (at, table.is_path (part whole at len)) ∷ []) (λ path whole. path ≡ part whole at len) result }
+    ensures long { IfOk result (λ path. length path ≡ len) }
+    ensures window { OnOk result (IsWindow (told_of Journal (S.state store.old)) (size_of Journal (S.state store.old)) window.new) }
+    ensures same { S.state store.new ≡ S.state store.old }
+    ensures counted { IsReadCounted result (S.faults store.old) (S.faults store.new) }
+{
+    window.reach(store, at, len)?;
+    path_of(alloc, window.bytes_at(at, len), at)
+}
+
+/// Reads the line at a place, where it passes its checks.
+fn read_line<S: Store>(
+    alloc: Global,
+    window: &mut Window,
+    store: &mut S,
+    at: u64,
+    end: u64,
+) -> Result<Listed, JournalFault>
+    requires window { IsWindow (told_of Journal (S.state store.old)) (size_of Journal (S.state store.old)) window.old }
+    requires begins { at ≤ end }
+    requires inside { end ≤ size_of Journal (S.state store.old) }
+    requires end { end < 2 ^ 32 }
+    ensures read { ReadsPart (told_of Journal (S.state store.old)) at (λ line. at + listed_len line) Always
+        (λ whole. table.line_checks whole end at) (λ line whole. (line ≡ line_in whole at) × (at + listed_len line ≡ line_end whole at)) result }
+    ensures ends { IfOk result (λ line. at + listed_len line ≤ end) }
+    ensures window { OnOk result (IsWindow (told_of Journal (S.state store.old)) (size_of Journal (S.state store.old)) window.new) }
+    ensures same { S.state store.new ≡ S.state store.old }
+    ensures counted { IsReadCounted result (S.faults store.old) (S.faults store.new) }
+{
+    let front = read_front(window, store, at, end)?;
+    let path = read_path(alloc, window, store, at + 7, usize::from(front.path_len))?;
     Ok(Listed {
-        kind: kind_of(bytes[at]),
-        rule: u32_at(Order::Little, bytes, at + 1),
-        path: Text::from_str(alloc, path)?,
+        kind: front.kind,
+        rule: front.rule,
+        path,
     })
 }
 
-/// The line at a place, where it passes its checks.
-fn line_at(alloc: Global, bytes: &[u8], end: usize, at: usize) -> Result<Listed, JournalFault>
-    requires begins { at ≤ end }
-    requires inside { end ≤ length bytes.now }
-    ensures says { FailsAs (table.line_checks bytes.now end at) result }
-    ensures is { IfOk result (λ line. line ≡ line_in bytes.now at) }
-    ensures ends { IfOk result (λ line. line_end bytes.now at ≤ end) }
+/// How many bytes a line has.
+fn line_len(line: &Listed) -> u64
+    requires { listed_len line.now < 2 ^ 32 }
+    ensures { result ≡ listed_len line.now }
 {
-    if end - at < 7 {
-        return Err(JournalFault::Bad { at: at as u64 });
-    }
-    let checks = front_checks(bytes, end, at);
-    match first_failing(&checks) {
-        Some(bad) => Err(JournalFault::Bad { at: bad }),
-        None => line_of(alloc, bytes, at),
-    }
+    7 + line.path.as_str().len() as u64
 }
 
-/// The lines of a journal, where all pass their checks.
-pub(crate) fn read_lines(
+/// Reads the lines of a journal, where all pass their checks.
+pub(crate) fn read_lines<S: Store>(
     alloc: Global,
-    bytes: &[u8],
-    end: usize,
-    begin: usize,
-    count: usize,
+    window: &mut Window,
+    store: &mut S,
+    begin: u64,
+    end: u64,
+    count: u32,
 ) -> Result<Vec<Listed>, JournalFault>
+    requires window { IsWindow (told_of Journal (S.state store.old)) (size_of Journal (S.state store.old)) window.old }
     requires begins { begin ≤ end }
-    requires inside { end ≤ length bytes.now }
-    ensures says { FailsAs (table.lines_checks bytes.now end begin count) result }
-    ensures are { IfOk result (λ lines. lines.items ≡ lines_in bytes.now begin count) }
+    requires inside { end ≤ size_of Journal (S.state store.old) }
+    requires end { end < 2 ^ 32 }
+    ensures read { ReadsPart (told_of Journal (S.state store.old)) begin (λ _. end) Always
+        (λ whole. table.lines_checks whole end begin count) (λ lines whole. lines.items ≡ lines_in whole begin count) result }
+    ensures window { OnOk result (IsWindow (told_of Journal (S.state store.old)) (size_of Journal (S.state store.old)) window.new) }
+    ensures same { S.state store.new ≡ S.state store.old }
+    ensures counted { IsReadCounted result (S.faults store.old) (S.faults store.new) }
 {
     let mut lines = Vec::new(alloc);
     let mut at = begin;
     for _ in 0..count {
-        let line = line_at(alloc, bytes, end, at)?;
-        at = end_of(bytes, at);
+        let line = read_line(alloc, window, store, at, end)?;
+        at += line_len(&line);
         lines.push(line)?;
     }
     let left = end - at;
     if left > 0 {
-        return Err(JournalFault::Bad { at: at as u64 });
+        return Err(JournalFault::Bad { at });
     }
     Ok(lines)
 }

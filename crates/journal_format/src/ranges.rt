@@ -1,14 +1,22 @@
 //! The ranges of a journal.
-ghost use Rattle.std.specs.Prelude.{◌≡◌, ◌+◌, ◌*◌, ◌≤◌, ◌==◌, ◌&&◌, not, nat_le, nat_lt, IfOk, length};
+ghost use Rattle.std.specs.Prelude.{◌≡◌, ◌≢◌, ◌+◌, ◌*◌, ◌^◌, ◌<◌, ◌≤◌, ◌==◌, ◌&&◌, ℕ, None, Err, List, not, nat_le, nat_lt, IfOk, OnOk, length};
+ghost use Rattle.bytes_defs.specs.Bytes.{part};
 ghost use Rattle.bytes_defs.specs.Numbers.{little_at};
 ghost use Rattle.journal_defs.specs.Checks as table;
 ghost use Rattle.journal_defs.specs.Reading.{image_len_in, claim_in, claims_in};
-ghost use Rattle.journal_format.specs.Says.{FailsAs};
+ghost use Rattle.rx_ranges.specs.declared.plan.TheConstants.{MAX_RANGES};
+ghost use Rattle.disk_defs.specs.Disk.{size_of, told_of};
+ghost use Rattle.disk_defs.specs.declared.Area.TheVariants.{Journal};
+ghost use Rattle.journal_format.specs.Parts.{IsWindow, ReadsPart};
+ghost use Rattle.journal_format.specs.Says.{FailsAs, IsReadCounted};
 
 use crate::fault::JournalFault;
-use crate::fields::{claim_at, first_failing};
+use crate::fields::{claim_of, first_failing};
+use crate::window::Window;
+use journal_defs::{HEADER_LEN, RANGE_LEN};
 use range_defs::Claim;
 use rx_ranges::MAX_RULE;
+use rx_store::Store;
 use std::alloc::Global;
 
 /// Whether three bytes are zeros.
@@ -49,67 +57,97 @@ fn has_own_rule(claim: &Claim, last_end: u64, last_rule: u32) -> bool
     is_rule(claim.rule) && !(last_end == claim.range.at && last_rule == claim.rule)
 }
 
-/// The checks of the range at a place, where the last one ended here and had this rule.
-#[tactic(auto, unfolding(journal_defs::specs::Checks::range_checks))]
+/// The checks of the range in these bytes, which stand at a place, where the last one ended here and had this rule.
 fn range_checks(
     bytes: &[u8],
-    at: usize,
+    at: u64,
     image_len: u64,
     last_end: u64,
     last_rule: u32,
 ) -> [(u64, bool); 4]
-    requires inside { at + 24 ≤ length bytes.now }
-    requires image_len { image_len ≡ image_len_in bytes.now }
-    ensures { result ≡ table.range_checks bytes.now at last_end last_rule }
+    requires bytes { length bytes.now ≡ 24 }
+    requires place { at + 24 < 2 ^ 64 }
+    ensures are { (whole : List ℕ) → part whole at 24 ≡ bytes.now → image_len ≡ image_len_in whole → result ≡ table.range_checks whole at last_end last_rule }
+    ensures inside { table.first_failing result ≡ None → (claim_in bytes.now 0).range.at + (claim_in bytes.now 0).range.len ≤ image_len }
 {
-    let claim = claim_at(bytes, at);
-    let place = at as u64;
+    let claim = claim_of(bytes);
     [
-        (place, begins_behind(&claim, last_end, image_len)),
-        (place + 8, ends_inside(&claim, image_len)),
-        (place + 16, has_own_rule(&claim, last_end, last_rule)),
-        (place + 21, has_zeros(bytes, at + 21)),
+        (at, begins_behind(&claim, last_end, image_len)),
+        (at + 8, ends_inside(&claim, image_len)),
+        (at + 16, has_own_rule(&claim, last_end, last_rule)),
+        (at + 21, has_zeros(bytes, 21)),
     ]
 }
 
-/// The range at a place, where it passes its checks.
+/// The range in these bytes, which stand at a place, where it passes its checks.
 fn range_at(
     bytes: &[u8],
-    at: usize,
+    at: u64,
     image_len: u64,
     last_end: u64,
     last_rule: u32,
 ) -> Result<Claim, JournalFault>
-    requires inside { at + 24 ≤ length bytes.now }
-    requires image_len { image_len ≡ image_len_in bytes.now }
-    ensures says { FailsAs (table.range_checks bytes.now at last_end last_rule) result }
-    ensures is { IfOk result (λ claim. claim ≡ claim_in bytes.now at) }
+    requires bytes { length bytes.now ≡ 24 }
+    requires place { at + 24 < 2 ^ 64 }
+    ensures says { (whole : List ℕ) → part whole at 24 ≡ bytes.now → image_len ≡ image_len_in whole → FailsAs (table.range_checks whole at last_end last_rule) result }
+    ensures is { IfOk result (λ claim. claim ≡ claim_in bytes.now 0) }
     ensures ends { IfOk result (λ claim. claim.range.at + claim.range.len ≤ image_len) }
+    ensures calm { result ≢ Err JournalFault.Device }
 {
     let checks = range_checks(bytes, at, image_len, last_end, last_rule);
     match first_failing(&checks) {
-        None => Ok(claim_at(bytes, at)),
+        None => Ok(claim_of(bytes)),
         Some(bad) => Err(JournalFault::Bad { at: bad }),
     }
 }
 
-/// The ranges of a journal, where all pass their checks.
-pub(crate) fn read_ranges(
+/// Reads the range at a place, where it passes its checks.
+fn read_range<S: Store>(
+    window: &mut Window,
+    store: &mut S,
+    at: u64,
+    image_len: u64,
+    last_end: u64,
+    last_rule: u32,
+) -> Result<Claim, JournalFault>
+    requires window { IsWindow (told_of Journal (S.state store.old)) (size_of Journal (S.state store.old)) window.old }
+    requires inside { at + 24 ≤ size_of Journal (S.state store.old) }
+    requires place { at + 24 < 2 ^ 64 }
+    ensures read { ReadsPart (told_of Journal (S.state store.old)) at (λ _. at + 24) (λ whole. image_len ≡ image_len_in whole)
+        (λ whole. table.range_checks whole at last_end last_rule) (λ claim whole. claim ≡ claim_in whole at) result }
+    ensures ends { IfOk result (λ claim. claim.range.at + claim.range.len ≤ image_len) }
+    ensures window { OnOk result (IsWindow (told_of Journal (S.state store.old)) (size_of Journal (S.state store.old)) window.new) }
+    ensures same { S.state store.new ≡ S.state store.old }
+    ensures counted { IsReadCounted result (S.faults store.old) (S.faults store.new) }
+{
+    window.reach(store, at, RANGE_LEN as usize)?;
+    let bytes = window.bytes_at(at, RANGE_LEN as usize);
+    range_at(bytes, at, image_len, last_end, last_rule)
+}
+
+/// Reads the ranges of a journal, where all pass their checks.
+pub(crate) fn read_ranges<S: Store>(
     alloc: Global,
-    bytes: &[u8],
-    count: usize,
+    window: &mut Window,
+    store: &mut S,
+    count: u64,
     image_len: u64,
 ) -> Result<Vec<Claim>, JournalFault>
-    requires inside { 40 + 24 * count ≤ length bytes.now }
-    requires image_len { image_len ≡ image_len_in bytes.now }
-    ensures says { FailsAs (table.ranges_checks bytes.now 40 0 0 count) result }
-    ensures are { IfOk result (λ claims. claims.items ≡ claims_in bytes.now 40 count) }
+    requires window { IsWindow (told_of Journal (S.state store.old)) (size_of Journal (S.state store.old)) window.old }
+    requires inside { 40 + 24 * count ≤ size_of Journal (S.state store.old) }
+    requires few { count ≤ MAX_RANGES }
+    ensures read { ReadsPart (told_of Journal (S.state store.old)) 40 (λ _. 40 + 24 * count) (λ whole. image_len ≡ image_len_in whole)
+        (λ whole. table.ranges_checks whole 40 0 0 count) (λ claims whole. claims.items ≡ claims_in whole 40 count) result }
+    ensures window { OnOk result (IsWindow (told_of Journal (S.state store.old)) (size_of Journal (S.state store.old)) window.new) }
+    ensures same { S.state store.new ≡ S.state store.old }
+    ensures counted { IsReadCounted result (S.faults store.old) (S.faults store.new) }
 {
-    let mut claims = Vec::with_capacity(alloc, count)?;
+    let mut claims = Vec::with_capacity(alloc, count as usize)?;
     let mut last_end = 0;
     let mut last_rule = 0;
     for i in 0..count {
-        let claim = range_at(bytes, 40 + 24 * i, image_len, last_end, last_rule)?;
+        let at = HEADER_LEN + RANGE_LEN * i;
+        let claim = read_range(window, store, at, image_len, last_end, last_rule)?;
         claims.push(claim)?;
         last_end = claim.range.at + claim.range.len;
         last_rule = claim.rule;

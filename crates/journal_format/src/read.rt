@@ -1,13 +1,19 @@
 //! Reads the journal of a store.
-ghost use Rattle.std.specs.Prelude.{◌≡◌, ◌≢◌, ℕ, ◌≤◌, Err, List, length, IfOk, IfSome, OnOk};
+ghost use Rattle.std.specs.Prelude.{◌≡◌, ◌≢◌, ◌+◌, ◌*◌, ◌<◌, ℕ, All, ◌≤◌, Err, List, length, IfErr, IfOk, IfSome};
 ghost use Rattle.bytes_defs.specs.Bytes.{part};
 ghost use Rattle.disk_defs.specs.Count.{IsCountedIn};
 ghost use Rattle.disk_defs.specs.Disk.{size_of, told_of};
 ghost use Rattle.disk_defs.specs.declared.Area.TheVariants.{Journal};
-ghost use Rattle.journal_format.specs.Says.{Says, IsState, IsReadCounted, SaysOfHeader};
+ghost use Rattle.journal_defs.specs.Form.{group_count};
+ghost use Rattle.journal_format.specs.Header.{IsHeader};
+ghost use Rattle.journal_format.specs.Parts.{IsPart};
+ghost use Rattle.journal_format.specs.Says.{Says, IsState, IsReadCounted};
+ghost use Rattle.journal_format.specs.declared.state.JournalState.{JournalState};
+ghost use Rattle.rx_ranges.specs.declared.plan.TheConstants.{MAX_LISTING_BYTES, MAX_RANGES};
 
-use crate::decode::{checked_header, decode};
+use crate::decode::{checked_header, read_state};
 use crate::fault::JournalFault;
+use crate::fields::Header;
 use crate::state::JournalState;
 use disk_defs::{Area, Fault};
 use journal_defs::OPEN_GATE;
@@ -27,28 +33,22 @@ fn read_header<S: Store>(store: &mut S) -> Result<[u8; 40], Fault>
     Ok(header)
 }
 
-/// Whether the header of a journal of `len` bytes is one of an open journal, and passes its checks.
-fn check_header(header: &[u8], len: u64) -> Result<(), JournalFault>
+/// The numbers of the header of a journal of `len` bytes, where it is one of an open journal, and passes its checks.
+fn open_header(header: &[u8], len: u64) -> Result<Header, JournalFault>
     requires header { length header.now ≡ 40 }
     requires long { 41 ≤ len }
-    ensures says { (bytes : List ℕ) → length bytes ≡ len → header.now ≡ part bytes 0 40 → SaysOfHeader bytes result }
+    ensures is { IfOk result (λ numbers. (bytes : List ℕ) → part bytes 0 40 ≡ header.now → IsHeader len numbers bytes) }
+    ensures refuses { IfErr result (λ fault. (bytes : List ℕ) → length bytes ≡ len → part bytes 0 40 ≡ header.now → Says bytes (Err fault)) }
+    ensures few { IfOk result (λ numbers. numbers.ranges ≤ MAX_RANGES) }
+    ensures short { IfOk result (λ numbers. numbers.listing_len ≤ MAX_LISTING_BYTES) }
+    ensures fits { IfOk result (λ numbers. 40 + 24 * numbers.ranges + numbers.listing_len + (group_count numbers.ranges + 1) ≡ len) }
+    ensures fit { All (λ byte. byte < 256) header.now }
     ensures calm { result ≢ Err JournalFault.Device }
 {
     if header[0] != OPEN_GATE {
         return Err(JournalFault::NotOpen);
     }
-    checked_header(header, len)?;
-    Ok(())
-}
-
-/// Reads the whole journal.
-fn read_all<S: Store>(store: &mut S, buf: &mut [u8]) -> Result<(), Fault>
-    requires { length buf.old ≡ size_of Journal (S.state store.old) }
-    ensures told { OnOk result (IfSome (told_of Journal (S.state store.old)) (λ journal. buf.new ≡ journal)) }
-    ensures same { S.state store.new ≡ S.state store.old }
-    ensures counted { IsCountedIn Journal result (S.faults store.old) (S.faults store.new) }
-{
-    store.read_at(Area::Journal, 0, buf)
+    checked_header(header, len)
 }
 
 /// What the journal of a store holds.
@@ -62,9 +62,7 @@ pub fn read_journal<S: Store>(alloc: Global, store: &mut S) -> Result<JournalSta
     if len < 41 {
         return Err(JournalFault::NotOpen);
     }
-    let header = read_header(store)?;
-    check_header(&header, len)?;
-    let mut bytes = vec![in alloc; 0; len as usize]?;
-    read_all(store, &mut bytes)?;
-    decode(alloc, &bytes)
+    let bytes = read_header(store)?;
+    let header = open_header(&bytes, len)?;
+    read_state(alloc, store, &header, len)
 }

@@ -1,7 +1,7 @@
 use Rattle.std.proofs.Common.{◌≡◌, IfSome, length, sym, subst, rules}
 use Rattle.disk_defs.specs.Disk.{State, told_journal, ReadsFrom}
 use Rattle.disk_defs.specs.declared.Area.TheVariants.{Journal}
-use Rattle.journal_format.proofs.Gate.{told_open, told_short}
+use Rattle.journal_format.proofs.Gate.{told_open}
 use Rattle.journal_format.proofs.open.stands_open.Goals as goal
 
 pub returns-clause-told : goal.returns-clause-told
