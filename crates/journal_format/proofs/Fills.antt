@@ -4,7 +4,7 @@ use Rattle.std.specs.List.{flat_map}
 use Rattle.bytes_defs.specs.Bytes.{part}
 use Rattle.std.proofs.Common.{ap, sym, subst, ◌∙◌, arith, inl, inr}
 use Rattle.std.proofs.lemmas.Bool.{cases_lt}
-use Rattle.std.proofs.lemmas.List.{append_assoc, append-nil, ext_get_or, flat_map_more, take_more, replicate_more, get_or-drop, get_or-take, get_or_append_left, get_or-replicate, length-append, length-drop, length-replicate, length-take, length-take-le, take-append-drop, take_all}
+use Rattle.std.proofs.lemmas.List.{append_assoc, append-nil, ext_get_or, flat_map_more, take_more, replicate_more, get_or-drop, get_or-take, get_or_append_left, get_or-replicate, length-append, length-drop, length-replicate, length-take, length-take-le, nil_from_length, take-append-drop, take_all}
 use Rattle.std.proofs.lemmas.List.Sums.{sum_by-append}
 use Rattle.std.proofs.lemmas.List.Concat.{flat_map-append}
 use Rattle.journal_defs.proofs.Journals.{in_parts, length_header_rest, length_journal, length_lines, length_ranges}
@@ -195,6 +195,16 @@ pub lines_end : (lines : List Listed) (i : ℕ) (before now : List ℕ) (at begi
     → FillsNext at begin (flat_map line_bytes (take i lines)) before now → FillsNext at begin (flat_map line_bytes lines) before now
 lines_end lines i before now at begin place there ends fills = fills_all line_bytes lines i before now at begin (λ more. let long = length_lines (take i lines) in omega (arith, long, there, ends)) fills
 
+-- the lines in front of one that begins in front of the piece, or is the first one
+pub lines_start : (lines : List Listed) (i : ℕ) (piece : List ℕ) (at begin place : ℕ) → place ≡ begin + sum_by listed_len (take i lines) → place ≤ max at begin
+    → FillsNext at begin (flat_map line_bytes (take i lines)) piece piece
+lines_start lines i piece at begin place there passed =
+    let long = length_lines (take i lines) in
+    elim (cases_lt at place) [
+      | inl more ↦ fills_none piece _ at begin (nil_from_length (flat_map line_bytes (take i lines)) (omega (arith, long, there, passed, more)))
+      | inr front ↦ fills_in_front piece (flat_map line_bytes (take i lines)) at begin (omega (arith, long, there, front))
+    ]
+
 -- the place behind one line more
 pub place_more : (lines : List Listed) (i : ℕ) (line : Listed) (path : List ℕ) (begin place : ℕ) → i < length lines → line ≡ get_or lines i line → place ≡ begin + sum_by listed_len (take i lines) → path ≡ line.path
     → place + (7 + length path) ≡ begin + sum_by listed_len (take (i + 1) lines)
@@ -204,6 +214,13 @@ place_more lines i line path begin place inside is there path_is =
     ap (sum_by listed_len) more ∙ sum_by-append listed_len (take i lines) (line ∷ []) ∙ ap (λ last. sum_by listed_len (take i lines) + last) (omega arith) in
     let long : length path ≡ length line.path = ap length path_is in
     omega (arith, sum, there, long)
+
+-- one line more, and the place behind it
+pub lines_step : (lines : List Listed) (i : ℕ) (line : Listed) (before middle now : List ℕ) (at begin place len : ℕ) → FillsNext at place (line_bytes line) middle now → i < length lines → line ≡ get_or lines i line
+    → place ≡ begin + sum_by listed_len (take i lines) → len ≡ listed_len line → FillsNext at begin (flat_map line_bytes (take i lines)) before middle
+    → FillsNext at begin (flat_map line_bytes (take (i + 1) lines)) before now × (place + len ≡ begin + sum_by listed_len (take (i + 1) lines))
+lines_step lines i line before middle now at begin place len second inside is there len_is first =
+    (lines_more lines i line before middle now at begin place inside is there first second, ap (λ n. place + n) len_is ∙ place_more lines i line line.path begin place inside is there refl)
 
 -- ---- the whole
 

@@ -224,7 +224,7 @@ fn read_line<S: Store>(
 }
 
 /// How many bytes a line has.
-fn line_len(line: &Listed) -> u64
+pub(crate) fn line_len(line: &Listed) -> u64
     requires { listed_len line.now < 2 ^ 32 }
     ensures { result ≡ listed_len line.now }
 {

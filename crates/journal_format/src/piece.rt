@@ -1,12 +1,14 @@
 //! The first journal of a plan, in pieces.
-ghost use Rattle.std.specs.Prelude.{◌≡◌, ℕ, ◌+◌, ◌*◌, ◌^◌, ◌<◌, ◌≤◌, ◌∷◌, All, length, replicate, slice_index, sum_by};
+ghost use Rattle.std.specs.Prelude.{◌≡◌, ℕ, ◌+◌, ◌*◌, ◌^◌, ◌<◌, ◌≤◌, ◌∷◌, All, max, take, length, replicate, slice_index, sum_by};
 ghost use Rattle.std.specs.List.{flat_map};
 ghost use Rattle.bytes_defs.specs.Bytes.{part};
 ghost use Rattle.journal_defs.specs.Form as form;
 ghost use Rattle.journal_defs.specs.Form.{first_journal, little, range_bytes, line_bytes, header_rest};
+ghost use Rattle.journal_format.specs.Cursors.{IsCursor};
 ghost use Rattle.journal_format.specs.Filled.{FillsNext};
 ghost use Rattle.rx_ranges.specs.PlanChecks.{IsPlan, IsListed, listed_len};
 
+use crate::listing::line_len;
 use journal_defs::{HEADER_LEN, RANGE_LEN};
 use range_defs::Claim;
 use rx_ranges::{ListKind, Listed, Plan};
@@ -159,21 +161,54 @@ fn put_ranges(piece: &mut [u8], at: u64, ranges: &[Claim])
     }
 }
 
-/// Puts the lines of the listing, which begins at a place.
-fn put_lines(piece: &mut [u8], at: u64, begin: u64, lines: &[Listed])
+/// Where the lines of a listing go on: the number of a line, and its place in the journal.
+#[derive(Clone, Copy, Debug, Drop)]
+pub struct Cursor {
+    line: usize,
+    place: u64,
+}
+
+impl Cursor {
+    /// The first line of a plan.
+    pub fn first(plan: &Plan) -> Cursor
+        requires { IsPlan plan.now }
+        ensures { (at : ℕ) → IsCursor plan.now at result }
+    {
+        Cursor {
+            line: 0,
+            place: HEADER_LEN + RANGE_LEN * plan.ranges.items().len() as u64,
+        }
+    }
+}
+
+/// Puts the lines of the listing, which begins at a place, from a line on that no line in front of it passes into the piece.
+/// Answers the first line that isn't whole in front of the piece's end.
+fn put_lines(piece: &mut [u8], at: u64, begin: u64, from: Cursor, lines: &[Listed]) -> Cursor
     requires piece { at + length piece.old < 2 ^ 64 }
     requires listed { All IsListed lines.now }
     requires fits { begin + sum_by listed_len lines.now < 2 ^ 64 }
-    ensures { FillsNext at begin (flat_map line_bytes lines.now) piece.old piece.new }
+    requires line { from.line ≤ length lines.now }
+    requires place { from.place ≡ begin + sum_by listed_len (take from.line lines.now) }
+    requires passed { from.place ≤ max at begin }
+    ensures fills { FillsNext at begin (flat_map line_bytes lines.now) piece.old piece.new }
+    ensures line { result.line ≤ length lines.now }
+    ensures place { result.place ≡ begin + sum_by listed_len (take result.line lines.now) }
+    ensures passed { result.place ≤ max (at + length piece.old) begin }
 {
     let end = at + piece.len() as u64;
-    let mut place = begin;
-    for line in lines {
-        if end <= place {
-            return;
+    let mut place = from.place;
+    for line in from.line..lines.len() {
+        let listed = &lines[line];
+        put_line(piece, at, place, listed);
+        let next = place + line_len(listed);
+        if end < next {
+            return Cursor { line, place };
         }
-        put_line(piece, at, place, line);
-        place += 7 + line.path.as_str().len() as u64;
+        place = next;
+    }
+    Cursor {
+        line: lines.len(),
+        place,
     }
 }
 
@@ -195,16 +230,42 @@ fn put_zeros(piece: &mut [u8], at: u64, place: u64)
     clear_from(piece, from);
 }
 
+/// Puts what a piece has of a header with a closed gate.
+fn put_front(piece: &mut [u8], at: u64, plan: &Plan)
+    requires piece { at + length piece.old < 2 ^ 64 }
+    requires plan { IsPlan plan.now }
+    ensures { FillsNext at 0 (0 ∷ header_rest plan.now) piece.old piece.new }
+{
+    if at < HEADER_LEN {
+        put_header(piece, at, plan);
+    }
+}
+
+/// Fills a buffer with the bytes of a plan's first journal from a place on, of which the listing goes on at a cursor. Answers
+/// the cursor for the bytes behind them.
+pub fn journal_piece_from(plan: &Plan, len: u64, at: u64, from: Cursor, buf: &mut [u8]) -> Cursor
+    requires plan { IsPlan plan.now }
+    requires len { len ≡ form.journal_len plan.now }
+    requires inside { at + length buf.old ≤ form.journal_len plan.now }
+    requires cursor { IsCursor plan.now at from }
+    ensures filled { buf.new ≡ part (first_journal plan.now) at (length buf.old) }
+    ensures cursor { IsCursor plan.now (at + length buf.old) result }
+{
+    let ranges = plan.ranges.items();
+    let listing = HEADER_LEN + RANGE_LEN * ranges.len() as u64;
+    let groups = (ranges.len() as u64 + 63) / 64;
+    put_front(buf, at, plan);
+    put_ranges(buf, at, ranges);
+    let next = put_lines(buf, at, listing, from, plan.listing.items());
+    put_zeros(buf, at, len - (groups + 1));
+    next
+}
+
 /// Fills a buffer with the bytes of a plan's first journal from a place on.
 pub fn journal_piece(plan: &Plan, at: u64, buf: &mut [u8])
     requires plan { IsPlan plan.now }
     requires inside { at + length buf.old ≤ form.journal_len plan.now }
     ensures { buf.new ≡ part (first_journal plan.now) at (length buf.old) }
 {
-    let lines = plan.listing.items();
-    let listing = HEADER_LEN + RANGE_LEN * plan.ranges.items().len() as u64;
-    put_header(buf, at, plan);
-    put_ranges(buf, at, plan.ranges.items());
-    put_lines(buf, at, listing, lines);
-    put_zeros(buf, at, listing + listing_len(lines));
+    let _next = journal_piece_from(plan, journal_len(plan), at, Cursor::first(plan), buf);
 }

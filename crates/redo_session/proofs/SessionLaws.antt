@@ -13,7 +13,8 @@ use Rattle.session_defs.specs.declared.TheConstants.{PIECE}
 use Rattle.session_defs.specs.declared.Turn.TheVariants.{Cleared, Armed, Wrote, Opened}
 use Rattle.session_defs.specs.Script.{Call, sync, byte_call, writes, journal_calls, unmarked_calls, closing_calls, unmarked, script, rest_of}
 use Rattle.session_defs.specs.Session.{SessionValue, HasSizes, new_session, calls_of, next_call, IsChangeCounted}
-use Rattle.redo_session.specs.Steps.{left, left_from_group, HasJournal, IsStep, journal_at}
+use Rattle.journal_format.specs.declared.piece.Cursor.{Cursor}
+use Rattle.redo_session.specs.Steps.{left, left_from_group, HasCursor, HasJournal, IsStep, journal_at}
 use Rattle.redo_session.specs.Sessions.{IsSession, start_of, made_at, session_of}
 use Rattle.redo_session.specs.declared.step.Step.{Step}
 use Rattle.redo_session.specs.declared.step.Step.TheVariants.{Clear}
@@ -25,8 +26,8 @@ item_at [] (suc n) x rest is = cc
 item_at (y ∷ xs) Prim.Native.Nat.zero x rest is = cc
 item_at (y ∷ xs) (suc n) x rest is = item_at xs n x rest is
 
-module _ (plan : Plan) (resumed : Option Bool) (marks : List Bool) (len : ℕ) (step next : Step) (room : ℕ) (call : Call)
-    (session : IsSession plan resumed marks len step room) (first : left plan marks step ≡ call ∷ left plan marks next) where
+module _ (plan : Plan) (resumed : Option Bool) (marks : List Bool) (len : ℕ) (step next : Step) (room : ℕ) (cursor : Cursor) (call : Call)
+    (session : IsSession plan resumed marks len step room cursor) (first : left plan marks step ≡ call ∷ left plan marks next) where
   calls : List Call
   calls = calls_of plan (start_of resumed marks)
 
@@ -45,8 +46,8 @@ module _ (plan : Plan) (resumed : Option Bool) (marks : List Bool) (len : ℕ) (
   )
 
   -- the session behind it
-  pub session_more : IsStep plan next → IsSession plan resumed marks len next room
-  session_more is_step = record {
+  pub session_more : (after : Cursor) → IsStep plan next → HasCursor plan next after → IsSession plan resumed marks len next room after
+  session_more after is_step has_cursor = record {
     is_plan = session.is_plan;
     groups = session.groups;
     len_is = session.len_is;
@@ -54,6 +55,7 @@ module _ (plan : Plan) (resumed : Option Bool) (marks : List Bool) (len : ℕ) (
     calls = ap (λ n. drop n (calls_of plan (start_of resumed marks))) made_more
         ∙ sym (drop-drop 1 (made_at plan resumed marks step) (calls_of plan (start_of resumed marks))) ∙ ap (drop 1) (session.calls ∙ first);
     has_room = session.has_room;
+    has_cursor = has_cursor;
   }
 
   pub value_more : (before : SessionValue) → session_of plan resumed marks step false ≡ before
@@ -102,15 +104,16 @@ none_made : (plan : Plan) (resumed : Option Bool) (marks : List Bool) (step : St
     → made_at plan resumed marks step ≡ 0
 none_made plan resumed marks step all = omega (arith, ap length all)
 
-pub new_is : (plan : Plan) (resumed : Option Bool) (marks : List Bool) (len : ℕ) (step : Step) (room : ℕ) → IsPlan plan → length marks ≡ groups_of plan → len ≡ journal_len plan
-    → IsStep plan step → left plan marks step ≡ calls_of plan (start_of resumed marks) → room ≡ PIECE → IsSession plan resumed marks len step room
-new_is plan resumed marks len step room is_plan groups len_is is_step all has_room = record {
+pub new_is : (plan : Plan) (resumed : Option Bool) (marks : List Bool) (len : ℕ) (step : Step) (room : ℕ) (cursor : Cursor) → IsPlan plan → length marks ≡ groups_of plan → len ≡ journal_len plan
+    → IsStep plan step → left plan marks step ≡ calls_of plan (start_of resumed marks) → room ≡ PIECE → HasCursor plan step cursor → IsSession plan resumed marks len step room cursor
+new_is plan resumed marks len step room cursor is_plan groups len_is is_step all has_room has_cursor = record {
   is_plan = is_plan;
   groups = groups;
   len_is = len_is;
   is_step = is_step;
   calls = ap (λ n. drop n (calls_of plan (start_of resumed marks))) (none_made plan resumed marks step all) ∙ sym all;
   has_room = has_room;
+  has_cursor = has_cursor;
 }
 
 pub new_value : (plan : Plan) (resumed : Option Bool) (marks : List Bool) (step : Step) (journal : Option ℕ) → journal_at plan step ≡ journal

@@ -21,9 +21,10 @@ use Rattle.session_defs.specs.declared.TheConstants.{PIECE}
 use Rattle.session_defs.specs.declared.Turn.{Turn}
 use Rattle.session_defs.specs.declared.Turn.TheVariants.{Wrote, Filled, Marked}
 use Rattle.session_defs.proofs.Writes.{writes_first, writes_none, take_equal}
-use Rattle.redo_session.specs.Steps.{no_claim, claim_at, group_end, ranges_up_to, left_from_group, left_behind_fills, left_from_range, left_behind_body, left_from_byte, left, call_of, IsStep, HasJournal}
+use Rattle.redo_session.specs.Steps.{no_claim, claim_at, group_end, ranges_up_to, left_from_group, left_behind_fills, left_from_range, left_behind_body, left_from_byte, left, call_of, IsStep, HasCursor, HasJournal, journal_at}
 use Rattle.redo_session.specs.declared.step.Step.{Step}
-use Rattle.redo_session.specs.declared.step.Step.TheVariants.{Body, Fill}
+use Rattle.redo_session.specs.declared.step.Step.TheVariants.{Clear, ClearSync, Arm, ArmSync, Body, BodySync, Open, OpenSync, Fill, GroupSync, Mark, CloseSync, Close, LastSync, End}
+use Rattle.journal_format.specs.declared.piece.Cursor.{Cursor}
 
 -- an item, and those behind it
 drop_first : {X : Type 0} (xs : List X) (i : ℕ) (d : X) → i < length xs → drop i xs ≡ slice_index_or xs i d ∷ drop (i + 1) xs
@@ -171,3 +172,21 @@ pub body_sizes : (plan : Plan) (step : Step) (at : ℕ) (next : Option ℕ) (siz
 body_sizes plan step at next sizes is valid next_is here =
     subst (λ (step : Step). IsStep plan step → HasJournal plan step sizes → IfSome next (λ len. (sizes_after (call_of plan step).change sizes).journal ≡ len)) (sym is)
     (λ valid here. body_len_after plan at next sizes valid.1 next_is here) valid here
+
+-- behind the body of the journal nothing is asked of a cursor
+pub late_cursor : (plan : Plan) (step : Step) (cursor : Cursor) → IsStep plan step → journal_at plan step ≡ Some (journal_len plan) → HasCursor plan step cursor
+late_cursor plan Clear cursor is len = cc
+late_cursor plan ClearSync cursor is len = let here : 0 ≡ journal_len plan = cc in absurd (omega (arith, here))
+late_cursor plan Arm cursor is len = let here : 0 ≡ journal_len plan = cc in absurd (omega (arith, here))
+late_cursor plan ArmSync cursor is len = let here : 1 ≡ journal_len plan = cc in absurd (omega (arith, here))
+late_cursor plan (Body at) cursor is len = let here : at ≡ journal_len plan = cc in absurd (omega (arith, here, is.1))
+late_cursor plan BodySync cursor is len = tt
+late_cursor plan Open cursor is len = tt
+late_cursor plan OpenSync cursor is len = tt
+late_cursor plan (Fill group range done) cursor is len = tt
+late_cursor plan (GroupSync group) cursor is len = tt
+late_cursor plan (Mark group) cursor is len = tt
+late_cursor plan CloseSync cursor is len = tt
+late_cursor plan Close cursor is len = tt
+late_cursor plan LastSync cursor is len = tt
+late_cursor plan End cursor is len = tt

@@ -7,7 +7,8 @@ use Rattle.session_defs.specs.Session.{Start, Begun, Resumed, Stage, Running, En
 use Rattle.session_defs.specs.Script.{changes_of}
 use Rattle.disk_defs.specs.Disk.{State, state_after_all}
 use Rattle.session_defs.specs.declared.TheConstants.{PIECE}
-use Rattle.redo_session.specs.Steps.{left, IsStep, journal_at}
+use Rattle.redo_session.specs.Steps.{left, HasCursor, IsStep, journal_at}
+use Rattle.journal_format.specs.declared.piece.Cursor.{Cursor}
 use Rattle.redo_session.specs.declared.step.Step.{Step}
 
 -- how a session began: one that was resumed has a last mark
@@ -34,13 +35,14 @@ session_of plan resumed marks step has_ended = record {
 
 -- a session of a plan, with a mark for each of its groups, the length of its journal, and room for a piece; the calls that are
 -- left at its step are those that it hasn't made
-pub record IsSession (plan : Plan) (resumed : Option Bool) (marks : List Bool) (len : ℕ) (step : Step) (room : ℕ) : Type 0 where
+pub record IsSession (plan : Plan) (resumed : Option Bool) (marks : List Bool) (len : ℕ) (step : Step) (room : ℕ) (cursor : Cursor) : Type 0 where
   pub is_plan : IsPlan plan
   pub groups : length marks ≡ groups_of plan
   pub len_is : len ≡ journal_len plan
   pub is_step : IsStep plan step
   pub calls : drop (made_at plan resumed marks step) (calls_of plan (start_of resumed marks)) ≡ left plan marks step
   pub has_room : room ≡ PIECE
+  pub has_cursor : HasCursor plan step cursor
 
 -- how many turns a session has left: one for each call, and the one that finishes it
 abbrev pub turns_at : Stage → ℕ → ℕ

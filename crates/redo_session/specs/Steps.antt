@@ -7,6 +7,8 @@ use Rattle.disk_defs.specs.declared.Area.TheVariants.{Image, Journal}
 use Rattle.journal_defs.specs.Form.{first_journal, groups_of, journal_len}
 use Rattle.journal_defs.specs.declared.TheConstants.{OPEN_GATE, SET_MARK, GROUP_RANGES}
 use Rattle.range_defs.specs.declared.Claim.{Claim}
+use Rattle.journal_format.specs.Cursors.{IsCursor}
+use Rattle.journal_format.specs.declared.piece.Cursor.{Cursor}
 use Rattle.rx_ranges.specs.declared.plan.Plan.{Plan}
 use Rattle.session_defs.specs.Script.{Call, sync, byte_call, writes, fill_calls, mark_place, unmarked_calls, closing_calls}
 use Rattle.session_defs.specs.declared.TheConstants.{PIECE}
@@ -112,6 +114,20 @@ journal_at plan _ = Some (journal_len plan)
 -- the journal has the length with which a step begins
 abbrev pub HasJournal : Plan → Step → Sizes → Type 0
 HasJournal plan step sizes = IfSome (journal_at plan step) (λ len. sizes.journal ≡ len)
+
+-- the listing goes on at a cursor in the body of the journal, where that is written at a step or behind it
+abbrev pub HasCursor : Plan → Step → Cursor → Type 0
+HasCursor plan Clear cursor = IsCursor plan 1 cursor
+HasCursor plan ClearSync cursor = IsCursor plan 1 cursor
+HasCursor plan Arm cursor = IsCursor plan 1 cursor
+HasCursor plan ArmSync cursor = IsCursor plan 1 cursor
+HasCursor plan (Body at) cursor = IsCursor plan at cursor
+HasCursor plan _ cursor = Unit {0}
+
+-- the cursor before and after the call of a step: a piece of the body takes it on
+abbrev pub IsCursorAfter : Plan → Step → Cursor → Cursor → Type 0
+IsCursorAfter plan (Body at) before after = IsCursor plan (min (at + PIECE) (journal_len plan)) after
+IsCursorAfter plan _ before after = after ≡ before
 
 -- a step that makes a call
 abbrev pub makes_call : Step → Bool

@@ -4,11 +4,12 @@ ghost use Rattle.journal_defs.specs.Form.{groups_of, journal_len};
 ghost use Rattle.rx_ranges.specs.PlanChecks.{IsPlan};
 ghost use Rattle.session_defs.specs.Session.{IsChangeCounted, IsMade};
 ghost use Rattle.session_defs.specs.declared.TheConstants.{PIECE};
-ghost use Rattle.redo_session.specs.Steps.{HasJournal, IsStep, call_of};
+ghost use Rattle.redo_session.specs.Steps.{HasCursor, HasJournal, IsCursorAfter, IsStep, call_of};
+ghost use Rattle.journal_format.specs.Cursors.{IsCursor};
 
 use crate::step::Step;
 use journal_defs::{OPEN_GATE, SET_MARK};
-use journal_format::journal_piece;
+use journal_format::{Cursor, journal_piece_from};
 use rx_ranges::Plan;
 use rx_store::{Area, Fault, Store};
 use session_defs::PIECE;
@@ -20,11 +21,12 @@ fn piece_len(left: u64) -> usize
     left.min(PIECE as u64) as usize
 }
 
-/// Writes the piece of the first journal from a byte on.
+/// Writes the piece of the first journal from a byte on, at which the listing goes on at a cursor.
 fn write_body<S: Store>(
     plan: &Plan,
     len: u64,
     at: u64,
+    cursor: &mut Cursor,
     buffer: &mut [u8],
     store: &mut S,
 ) -> Result<(), Fault>
@@ -32,13 +34,15 @@ fn write_body<S: Store>(
     requires len { len ≡ journal_len plan.now }
     requires step { IsStep plan.now (Step.Body at) }
     requires buffer { length buffer.old ≡ PIECE }
+    requires cursor { IsCursor plan.now at cursor.old }
     requires sizes { HasJournal plan.now (Step.Body at) (S.state store.old).sizes }
     ensures made { IsMade (Some (call_of plan.now (Step.Body at))) result (S.state store.old) (S.state store.new) }
     ensures counted { IsChangeCounted (call_of plan.now (Step.Body at)).change result (S.faults store.old) (S.faults store.new) }
+    ensures cursor { IsCursor plan.now (min (at + PIECE) (journal_len plan.now)) cursor.new }
     ensures buffer { length buffer.new ≡ PIECE }
 {
     let piece = &mut buffer[..piece_len(len - at)];
-    journal_piece(plan, at, piece);
+    *cursor = journal_piece_from(plan, len, at, *cursor, piece);
     store.write_at(Area::Journal, at, piece)
 }
 
@@ -71,6 +75,7 @@ pub(crate) fn make_call<S: Store>(
     groups: usize,
     len: u64,
     step: Step,
+    cursor: &mut Cursor,
     buffer: &mut [u8],
     store: &mut S,
 ) -> Result<(), Fault>
@@ -79,17 +84,19 @@ pub(crate) fn make_call<S: Store>(
     requires len { len ≡ journal_len plan.now }
     requires step { IsStep plan.now step }
     requires more { step ≢ Step.End }
+    requires cursor { HasCursor plan.now step cursor.old }
     requires buffer { length buffer.old ≡ PIECE }
     requires image { (S.state store.old).sizes.image ≡ plan.now.image_len }
     requires journal { HasJournal plan.now step (S.state store.old).sizes }
     ensures made { IsMade (Some (call_of plan.now step)) result (S.state store.old) (S.state store.new) }
     ensures counted { IsChangeCounted (call_of plan.now step).change result (S.faults store.old) (S.faults store.new) }
+    ensures cursor { IsCursorAfter plan.now step cursor.old cursor.new }
     ensures buffer { length buffer.new ≡ PIECE }
 {
     match step {
         Step::Clear => store.cut_journal(0),
         Step::Arm => store.write_at(Area::Journal, 0, &[0]),
-        Step::Body { at } => write_body(plan, len, at, buffer, store),
+        Step::Body { at } => write_body(plan, len, at, cursor, buffer, store),
         Step::Open => store.write_at(Area::Journal, 0, &[OPEN_GATE]),
         Step::Fill { group, range, done } => write_fill(plan, group, range, done, buffer, store),
         Step::Mark { group } => {

@@ -11,7 +11,7 @@ ghost use Rattle.redo_session.specs.Sessions.{stage_of};
 use crate::NoMemory;
 use crate::call::make_call;
 use crate::step::{Step, next, next_group, turn_of};
-use journal_format::{JournalState, journal_len};
+use journal_format::{Cursor, JournalState, journal_len};
 use rx_ranges::Plan;
 use rx_store::Store;
 use session_defs::{PIECE, Turn, TurnFault};
@@ -27,6 +27,8 @@ pub struct Session<'p> {
     resumed: Option<bool>,
     len: u64,
     step: Step,
+    /// Where the listing goes on in the body of the journal.
+    cursor: Cursor,
     has_ended: bool,
     buffer: Vec<u8>,
 }
@@ -40,7 +42,7 @@ impl<'p> Model for Session<'p> {
 
     ghost view = { λ s. session_of s.plan.now s.resumed s.marks.items s.step s.has_ended };
 
-    ghost invariant = { λ s. IsSession s.plan.now s.resumed s.marks.items s.len s.step (vec_len s.buffer) };
+    ghost invariant = { λ s. IsSession s.plan.now s.resumed s.marks.items s.len s.step (vec_len s.buffer) s.cursor };
 }
 
 /// How many groups the ranges of a plan have.
@@ -92,6 +94,7 @@ impl<'p> Session<'p> {
             resumed: None,
             len: journal_len(plan),
             step: Step::Clear,
+            cursor: Cursor::first(plan),
             has_ended: false,
             buffer: room_for_piece(alloc)?,
         })
@@ -111,6 +114,7 @@ impl<'p> Session<'p> {
             resumed: Some(state.last),
             len: journal_len(&state.plan),
             step,
+            cursor: Cursor::first(&state.plan),
             has_ended: false,
             buffer: room_for_piece(alloc)?,
         })
@@ -143,16 +147,19 @@ impl<'p> Session<'p> {
         let groups = self.marks.len();
         let turn = turn_of(self.plan, self.step);
         let after = next(self.plan, &self.marks, self.len, self.step);
+        let mut cursor = self.cursor;
         match make_call(
             self.plan,
             groups,
             self.len,
             self.step,
+            &mut cursor,
             &mut self.buffer,
             store,
         ) {
             Ok(()) => {
                 self.step = after;
+                self.cursor = cursor;
                 Ok(turn)
             }
             Err(_) => {

@@ -4,7 +4,9 @@ ghost use Rattle.journal_defs.specs.Form.{groups_of, journal_len};
 ghost use Rattle.rx_ranges.specs.PlanChecks.{IsPlan};
 ghost use Rattle.disk_defs.specs.Disk.{Sizes, sizes_after};
 ghost use Rattle.session_defs.specs.declared.TheConstants.{PIECE};
-ghost use Rattle.redo_session.specs.Steps.{HasJournal, IsStep, call_of, group_end, journal_at, left, left_from_byte, left_from_group, left_from_range};
+ghost use Rattle.journal_format.specs.Cursors.{IsCursor};
+ghost use Rattle.journal_format.specs.declared.piece.Cursor.{Cursor};
+ghost use Rattle.redo_session.specs.Steps.{HasCursor, HasJournal, IsCursorAfter, IsStep, call_of, group_end, journal_at, left, left_from_byte, left_from_group, left_from_range};
 
 use journal_defs::GROUP_RANGES;
 use rx_ranges::Plan;
@@ -73,6 +75,7 @@ fn next_body(plan: &Plan, marks: &[bool], len: u64, at: u64) -> Step
     requires step { IsStep plan.now (Step.Body at) }
     ensures step { IsStep plan.now result }
     ensures journal { journal_at plan.now result ≡ Some (min (at + PIECE) (journal_len plan.now)) }
+    ensures cursor { (cursor : Cursor) → IsCursor plan.now (min (at + PIECE) (journal_len plan.now)) cursor → HasCursor plan.now result cursor }
     ensures left { left_from_byte plan.now marks.now at ≡ call_of plan.now (Step.Body at) ∷ left plan.now marks.now result }
 {
     if len - at <= PIECE as u64 {
@@ -160,6 +163,7 @@ pub(crate) fn next(plan: &Plan, marks: &[bool], len: u64, step: Step) -> Step
     ensures step { IsStep plan.now result }
     ensures sizes { (sizes : Sizes) → HasJournal plan.now step sizes → HasJournal plan.now result (sizes_after (call_of plan.now step).change sizes) }
     ensures left { left plan.now marks.now step ≡ call_of plan.now step ∷ left plan.now marks.now result }
+    ensures cursor { (before after : Cursor) → HasCursor plan.now step before → IsCursorAfter plan.now step before after → HasCursor plan.now result after }
 {
     match step {
         Step::Clear => Step::ClearSync,

@@ -8,8 +8,8 @@ use Rattle.redo_session.proofs.session.Session.begin.Goals as goal
 pub invariant_of-result : goal.invariant_of-result
 invariant_of-result c =
     let marks = c.in_ok-unset_marks.ensures ∙ ap (λ n. replicate n false) c.group_count.ensures in
-    new_is c.args.plan.now None c.in_ok-unset_marks.field-0.items c.journal_len.result Clear c.in_ok-room_for_piece.field-0.len c.requires
-    (ap length marks ∙ length-replicate (groups_of c.args.plan.now) false) c.journal_len.ensures tt (script_left c.args.plan.now c.in_ok-unset_marks.field-0.items marks) c.in_ok-room_for_piece.ensures
+    new_is c.args.plan.now None c.in_ok-unset_marks.field-0.items c.journal_len.result Clear c.in_ok-room_for_piece.field-0.len c.first.result c.requires
+    (ap length marks ∙ length-replicate (groups_of c.args.plan.now) false) c.journal_len.ensures tt (script_left c.args.plan.now c.in_ok-unset_marks.field-0.items marks) c.in_ok-room_for_piece.ensures (c.first.ensures 1)
 
 pub returns : goal.returns
 returns c =
