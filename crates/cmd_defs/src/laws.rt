@@ -3,6 +3,7 @@ ghost use Rattle.cmd_defs.specs.AnswerLaws.{RedactHasOneAnswer, ReportHasOneAnsw
 ghost use Rattle.cmd_defs.specs.PlanAnswerLaw.{PlanHasOneAnswer};
 
 /// A rule text and an image have one answer of `plan`.
+#[tactic(auto, using(crate::proofs::PlanAnswerLaw::one_answer))]
 pub fn plan_has_one_answer()
     ensures { PlanHasOneAnswer }
 {}

@@ -16,11 +16,13 @@ pub fn footprint_of_a_set<E, X>()
 {}
 
 /// A program on bytes that stand elsewhere in an image gives what it gives on those bytes.
+#[tactic(auto, using(crate::proofs::ViaLaws::via_law))]
 pub fn elsewhere_gives_the_same<E, X>()
     ensures { ViaLaw E X }
 {}
 
 /// It looks at no byte of the image but the places of those at which the program looks.
+#[tactic(auto, using(crate::proofs::ViaLaws::via_looks_law))]
 pub fn elsewhere_looks_at_places<E, X>()
     ensures { ViaLooksLaw E X }
 {}

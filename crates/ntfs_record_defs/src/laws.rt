@@ -16,6 +16,7 @@ pub fn a_record_looks_at_no_content_of_its_own()
 {}
 
 /// A record that is stored with other content of its resident `$DATA` is the same record.
+#[tactic(auto, using(crate::proofs::RecordLaws::other_content))]
 pub fn a_record_with_other_content_is_the_same()
     ensures { (a b : List ℕ) (size : ℕ) (found : FileRecord) → size % 512 ≡ 0 → result_of a (record_of size) ≡ Ok found → length a ≡ length b
         → ((byte : ℕ) → NoContentPlace found byte → slice_get a byte ≡ slice_get b byte) → result_of b (record_of size) ≡ Ok found }

@@ -2,11 +2,13 @@
 ghost use Rattle.session_defs.specs.Outcome.{ScriptLaw, RestLaw, HeldLaw, OneMoreLaw, FilledLengthLaw, FilledBytesLaw, UntouchedLaw, AcknowledgedLaw};
 
 /// All calls of a plan leave the image with its ranges filled, and its journal with all marks, whatever the journal was.
+#[tactic(auto, using(crate::proofs::OutcomeLaws::script_law))]
 pub fn all_calls_fill_the_plan()
     ensures { ScriptLaw }
 {}
 
 /// The calls that are left of an open journal leave the image with the ranges of the unmarked groups filled, and all marks.
+#[tactic(auto, using(crate::proofs::OutcomeLaws::rest_law))]
 pub fn the_rest_fills_what_is_unmarked()
     ensures { RestLaw }
 {}

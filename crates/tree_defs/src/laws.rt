@@ -10,6 +10,7 @@ pub fn images_rest_on_their_guard()
 
 /// What refuses an image is true of it: it has no magic, or a clause is false at that place, something there isn't supported, or a
 /// limit is passed. Nothing of the kind is true of an image that has a tree, and an image of which nothing of the kind is true has one.
+#[tactic(auto, using(crate::proofs::Refusals::image_refusal_law))]
 pub fn images_are_refused_truly()
     ensures { ImageRefusalLaw }
 {}
