@@ -10,7 +10,7 @@ use Rattle.hfs_defs.specs.Leaves.{Leaf, LeafList, leaf_of, leaves_from, leaves_o
 use Rattle.hfs_btree.specs.Cursor.{Cursor, file_on, rest_of, steps_left, current_of, must_enter, IsEntered, Enters, Advances, Steps, KeepsFile}
 use Rattle.hfs_btree.proofs.Chains.{at_the_end}
 use Rattle.rx_store.specs.declared.read_fault.ReadFault.{ReadFault}
-use Rattle.rx_store.specs.declared.read_fault.ReadFault.TheVariants.{Device, NoMemory, NotThis, Damaged, Unsupported, Limit}
+use Rattle.rx_store.specs.declared.read_fault.ReadFault.TheVariants.{Device, Damaged}
 
 -- ---- the records of a node
 
@@ -84,11 +84,8 @@ rest_passed image cursor passed = ap (λ records. followed_by records (chain_wit
 refused : (image : List ℕ) (old new : Cursor) (fault : ReadFault) (node : List ℕ) → old.pending ≡ [] → IsAlike old new
     → IsEntered (file_on image old.pieces old.fork_data old.node_size) old.link old.next old.left (Err fault) node → Enters (rest_of image old) (Err fault) (rest_of image new)
 refused image old new Device node passed alike entered = rest_alike image old new alike
-refused image old new NoMemory node passed alike entered = entered
-refused image old new NotThis node passed alike entered = entered
 refused image old new (Damaged sort place) node passed alike entered = (rest_passed image old passed ∙ entered, rest_alike image old new alike)
-refused image old new (Unsupported what place) node passed alike entered = entered
-refused image old new (Limit bound number) node passed alike entered = entered
+refused image old new other node passed alike entered = entered
 
 refused_told : (told : Option (List ℕ)) (view old new : Cursor) (fault : ReadFault) (node : List ℕ) → view ≡ old → old.pending ≡ [] → IsAlike view new
     → IfSome told (λ image. IsEntered (file_on image view.pieces view.fork_data view.node_size) view.link view.next view.left (Err fault) node)

@@ -83,13 +83,8 @@ ends_in_reach at len size bytes header is inside fits =
 
 -- an answer that isn't the device's counts nothing
 pub counts_nothing : (result : Result Header ReadFault) (before now : Faults) → (result ≡ Err read.Device → ⊥) → now ≡ before → IsReadCounted Image result before now
-counts_nothing (Ok header) before now calm same = same
 counts_nothing (Err read.Device) before now calm same = absurd (calm cc)
-counts_nothing (Err read.NoMemory) before now calm same = same
-counts_nothing (Err read.NotThis) before now calm same = same
-counts_nothing (Err (read.Damaged sort place)) before now calm same = same
-counts_nothing (Err (read.Unsupported what place)) before now calm same = same
-counts_nothing (Err (read.Limit bound number)) before now calm same = same
+counts_nothing other before now calm same = same
 
 -- ---- what an answer says of the volume
 

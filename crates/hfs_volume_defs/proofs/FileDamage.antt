@@ -21,7 +21,7 @@ use Rattle.hfs_volume_defs.specs.Damage.{IsFalseInFile, OfFork, OfTree, OfRecord
 use Rattle.hfs_volume_defs.proofs.Footprint.{found_gives}
 use Rattle.hfs_volume_defs.proofs.Results.{same_error, same_value, not_both, each_refuses, each_gives_item, stop_refuses, stop_gives}
 use Rattle.fault_defs.specs.declared.Refusal.{Refusal}
-use Rattle.fault_defs.specs.declared.Refusal.TheVariants.{NotThis, Damaged, Unsupported, Limit}
+use Rattle.fault_defs.specs.declared.Refusal.TheVariants.{Damaged}
 use Rattle.fault_defs.specs.declared.Sort.{Sort}
 use Rattle.hfs_defs.specs.declared.forks.Fork.{Fork}
 use Rattle.hfs_defs.specs.declared.forks.OverflowRecord.{OverflowRecord}
@@ -29,10 +29,8 @@ use Rattle.hfs_defs.specs.declared.header.Header.{Header}
 
 -- a damage of a part is one of the whole
 pub damage_map : (P Q : Sort → ℕ → Type 0) (fault : Refusal) → ((sort : Sort) (place : ℕ) → P sort place → Q sort place) → IsDamage P fault → IsDamage Q fault
-damage_map P Q NotThis into is = is
 damage_map P Q (Damaged sort place) into is = into sort place is
-damage_map P Q (Unsupported what place) into is = is
-damage_map P Q (Limit bound number) into is = is
+damage_map P Q other into is = is
 
 -- ---- forks
 

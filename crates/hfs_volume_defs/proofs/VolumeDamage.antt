@@ -17,7 +17,7 @@ use Rattle.hfs_defs.specs.Leaves.{Leaf}
 use Rattle.hfs_defs.specs.Overflow.{is_overflow_record, overflow_of, checked_overflow, each_leaf, overflow_records}
 use Rattle.hfs_defs.specs.TreeFiles.{extents_at, catalog_at, fork_leaves, volume_overflow}
 use Rattle.range_defs.specs.declared.TheConstants.{LONGEST_IMAGE}
-use Rattle.hfs_volume_defs.specs.Catalog.{Entry, RecordKind, FolderRecord, FileRecord, ThreadRecord, NoRecord, record_kind, is_some_kind, is_catalog_record, entry_by, checked_entry}
+use Rattle.hfs_volume_defs.specs.Catalog.{Entry, RecordKind, NoRecord, record_kind, is_some_kind, is_catalog_record, entry_by, checked_entry}
 use Rattle.hfs_volume_defs.specs.Folders.{listed, links_to, is_folder}
 use Rattle.hfs_volume_defs.specs.Files.{NamedEntry, named_entries, entry_file, special_files, special_file, entries_or_own}
 use Rattle.hfs_volume_defs.specs.Volume.{volume_entries, sound_entries, all_names, names_within, most_names, most_path_bytes, most_runs, run_count, tree_with, files_within, volume_files, tree_below, volume_tree}
@@ -70,16 +70,12 @@ entry_tests = record {
 }
   where
     stops : (leaf : Leaf) (fault : Refusal) (kind : RecordKind) → entry_by kind leaf ≡ Err fault → (is_some_kind kind ≡ false) × (Damaged CatalogRecord leaf.at ≡ fault)
-    stops leaf fault FolderRecord is = absurd cc
-    stops leaf fault FileRecord is = absurd cc
-    stops leaf fault ThreadRecord is = absurd cc
     stops leaf fault NoRecord is = (refl, same_error {X = Option Entry} (Damaged CatalogRecord leaf.at) fault is)
+    stops leaf fault other is = absurd cc
 
     passes : (leaf : Leaf) (x : Option Entry) (kind : RecordKind) → entry_by kind leaf ≡ Ok x → is_some_kind kind ≡ true
-    passes leaf x FolderRecord is = refl
-    passes leaf x FileRecord is = refl
-    passes leaf x ThreadRecord is = refl
     passes leaf x NoRecord is = absurd cc
+    passes leaf x other is = refl
 
 -- ---- the overflow records and the entries
 

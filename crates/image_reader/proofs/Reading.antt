@@ -5,7 +5,7 @@ use Rattle.bytes_defs.specs.declared.order.Order.TheVariants.{Little}
 use Rattle.fault_defs.specs.declared.Bound.TheVariants.{Image}
 use Rattle.rx_store.specs.Answers.{Answers}
 use Rattle.rx_store.specs.declared.read_fault.ReadFault.{ReadFault}
-use Rattle.rx_store.specs.declared.read_fault.ReadFault.TheVariants.{Device, NoMemory, NotThis, Damaged, Unsupported, Limit}
+use Rattle.rx_store.specs.declared.read_fault.ReadFault.TheVariants.{Device, NoMemory, Limit}
 use Rattle.rx_tree.specs.TreeValue.{TreeValue}
 use Rattle.ufs_volume_defs.specs.Volume.{volume_tree}
 use Rattle.tree_defs.specs.Kind.{other_kind}
@@ -25,13 +25,9 @@ of_image (Ok tree) = Ok tree
 of_image (Err fault) = Err (Read fault)
 
 answers_tell : (image : List ℕ) (result : Result TreeValue ReadFault) → other_kind image ≡ None → Answers result (image_tree image) → TellsTree (of_image result) image
-answers_tell image (Ok tree) none given = (none, given)
 answers_tell image (Err Device) none given = tt
 answers_tell image (Err NoMemory) none given = tt
-answers_tell image (Err NotThis) none given = (none, given)
-answers_tell image (Err (Damaged sort place)) none given = (none, given)
-answers_tell image (Err (Unsupported what place)) none given = (none, given)
-answers_tell image (Err (Limit bound number)) none given = (none, given)
+answers_tell image other none given = (none, given)
 
 module _ (told behind : Option (List ℕ)) (size : ℕ) (other : Bool) (same : behind ≡ told) (sized : IfSome told (λ image. length image ≡ size))
     (kind : IfSome behind (λ image. other ≡ is_some (other_kind image))) (none : other ≡ false) where

@@ -32,9 +32,7 @@ form_text (UnitForm unit) = unit_escape unit
 -- a plain character is no backslash
 abbrev IsForm : Form → Type 0
 IsForm (Plain c) = c ≢ backslash
-IsForm Doubled = ⊤
-IsForm (ByteForm byte) = ⊤
-IsForm (UnitForm unit) = ⊤
+IsForm other = ⊤
 
 -- the item that a form spells
 abbrev form_item : Form → Item
@@ -85,9 +83,6 @@ apart m n less same = omega arith
 form_text-same : (x y : Form) (r s : List ℕ) → IsForm x → IsForm y → form_text x ++ r ≡ form_text y ++ s → (x ≡ y) × (r ≡ s)
 unfolding byte_escape unit_escape
 form_text-same (Plain c) (Plain d) r s p q e = (cc, cc)
-form_text-same (Plain c) Doubled r s p q e = let same : c ≡ backslash = cc in absurd (p same)
-form_text-same (Plain c) (ByteForm d) r s p q e = let same : c ≡ backslash = cc in absurd (p same)
-form_text-same (Plain c) (UnitForm d) r s p q e = let same : c ≡ backslash = cc in absurd (p same)
 form_text-same Doubled (Plain d) r s p q e = let same : d ≡ backslash = cc in absurd (q same)
 form_text-same Doubled Doubled r s p q e = (refl, cc)
 form_text-same Doubled (ByteForm d) r s p q e = absurd (apart 92 120 (omega arith) cc)
@@ -100,6 +95,7 @@ form_text-same (UnitForm c) (Plain d) r s p q e = let same : d ≡ backslash = c
 form_text-same (UnitForm c) Doubled r s p q e = absurd (apart 92 117 (omega arith) cc)
 form_text-same (UnitForm c) (ByteForm d) r s p q e = absurd (apart 117 120 (omega arith) cc)
 form_text-same (UnitForm c) (UnitForm d) r s p q e = let same = unit_escape-same c d r s e in (ap UnitForm same.0, same.1)
+form_text-same (Plain c) other r s p q e = let same : c ≡ backslash = cc in absurd (p same)
 
 -- a character that prints as a byte's escape
 byte_form : (c : ℕ) → c < 128 → name_spelling c ≡ byte_escape c → FormOf (Character c)
@@ -161,10 +157,8 @@ item_spelling-same x y r s p q e =
 -- each form has a character at least
 form_text-some : (form : Form) → 0 < length (form_text form)
 unfolding byte_escape unit_escape
-form_text-some (Plain c) = omega arith
 form_text-some Doubled = omega arith
-form_text-some (ByteForm byte) = omega arith
-form_text-some (UnitForm unit) = omega arith
+form_text-some other = omega arith
 
 pub item_spelling-some : (item : Item) → IsReadable item → 0 < length (item_spelling item)
 item_spelling-some item readable = let form = form_of item readable in omega (arith, ap length form.spells, form_text-some form.form)

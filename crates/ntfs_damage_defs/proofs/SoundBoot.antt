@@ -13,8 +13,8 @@ use Rattle.ntfs_volume_defs.specs.Slots.{Mft}
 use Rattle.ntfs_volume_defs.specs.Segments.{Held}
 use Rattle.ntfs_volume_defs.specs.Lists.{Entry, ListContent}
 use Rattle.ntfs_volume_defs.specs.Mft.{mft_of}
-use Rattle.ntfs_damage_defs.specs.Wrong.{IsWrongSlot, OtherMagic, HoleInRecord, WrongEnd, WrongField, IsWrongSegment, WrongRuns, WrongCount, Gap, Twice, IsWrongStream, WrongSegment, TooLarge, IsWrongList, WrongEntry, IsMissing, NoSlot, NotOfFile, NoAttribute}
-use Rattle.ntfs_damage_defs.specs.Damage.{IsBoot, IsFalseAt, NoSectors, NoFirstCluster, WrongSlot, WrongListStream, WrongListEntry, Missing, MissingSegment, NoFirstSlot, NoMftBase, NoMapping, NotMapped, NoMftContent, WrongMftSegment, WrongMftStart, NoName, WrongPart, TooLongUnreadable}
+use Rattle.ntfs_damage_defs.specs.Wrong.{IsWrongSlot, OtherMagic, IsWrongSegment, WrongRuns, IsWrongStream, WrongSegment, TooLarge, IsWrongList, WrongEntry, IsMissing, NoSlot}
+use Rattle.ntfs_damage_defs.specs.Damage.{IsBoot, IsFalseAt, NoSectors, NoFirstCluster, WrongSlot, WrongListStream, WrongListEntry, Missing, MissingSegment, NoFirstSlot, NoMftBase, NoMapping, NotMapped, NoMftContent, WrongMftSegment, WrongMftStart, WrongPart}
 use Rattle.ntfs_damage_defs.proofs.BootDamage.{IsReadBoot, boot_is_read, total_is_sound}
 use Rattle.ntfs_damage_defs.proofs.SoundMap.{IsReadMft, mft_is_read, segment_maps_here, next_is_mapped, has_content}
 
@@ -42,16 +42,12 @@ not_map MftMap inside = inside
 not_map sort inside = tt
 
 slot_inside : (image : List ℕ) (mft : Mft) (number : ℕ) (sort : Sort) (place : ℕ) → IsWrongSlot image mft number sort place → IsInside sort
-slot_inside image mft number sort place (OtherMagic at other some is) = tt
-slot_inside image mft number sort place (HoleInRecord at i file below none is) = tt
-slot_inside image mft number sort place (WrongEnd stride at holds refuses is) = tt
-slot_inside image mft number sort place (WrongField i at holds refuses is) = tt
+slot_inside image mft number sort place (OtherMagic at another some is) = tt
+slot_inside image mft number sort place other = tt
 
 segment_inside : (mft : Mft) (before : ℕ) (held : Held) (sort : Sort) (place : ℕ) → IsWrongSegment mft before held sort place → IsInside sort
 segment_inside mft before held sort place (WrongRuns header damage is decodes) = tt
-segment_inside mft before held sort place (WrongCount header runs is decodes differs) = tt
-segment_inside mft before held sort place (Gap header is differs) = tt
-segment_inside mft before held sort place (Twice content is) = tt
+segment_inside mft before held sort place other = tt
 
 stream_inside : (mft : Mft) (first : Held) (more : List Held) (sort : Sort) (place : ℕ) → IsWrongStream mft first more sort place → IsInside sort
 stream_inside mft first more sort place (WrongSegment front held back runs own at split before wrong) = segment_inside mft _ held own at wrong
@@ -62,8 +58,7 @@ list_inside mft list content sort place (WrongEntry at chain below bad) = tt
 
 missing_inside : (image : List ℕ) (mft : Mft) (number : ℕ) (base : FileRecord) (entry : Entry) (sort : Sort) (place : ℕ) → IsMissing image mft number base entry sort place → IsInside sort
 missing_inside image mft number base entry sort place (NoSlot differs past) = tt
-missing_inside image mft number base entry sort place (NotOfFile slot differs slot_is none) = tt
-missing_inside image mft number base entry sort place (NoAttribute attributes are none) = tt
+missing_inside image mft number base entry sort place other = tt
 
 -- ---- the boot sector
 
@@ -83,16 +78,10 @@ boot_is_sound image at len boot place is_boot wrong = by_rule BootField place wr
     by_rule s p (WrongListEntry boot mft number base list content sort place is_boot has wrong) = not_boot sort (list_inside mft list content sort place wrong)
     by_rule s p (Missing boot mft number base list content entries entry sort place is_boot base_is has are among missing) = not_boot sort (missing_inside image mft number base entry sort place missing)
     by_rule s p (MissingSegment boot base known entry sort place is_boot next here missing) = not_boot sort (missing_inside image _ 0 base entry sort place missing)
-    by_rule s p (NoFirstSlot boot is_boot outside) = tt
-    by_rule s p (NoMftBase boot slot is_boot inside slot_is none) = tt
-    by_rule s p (NoMapping boot known held is_boot segment none) = tt
-    by_rule s p (NotMapped boot base known entry is_boot next differs none) = tt
-    by_rule s p (NoMftContent boot base is_boot base_is none) = tt
     by_rule s p (WrongMftSegment boot mft held sort place is_boot segment maps wrong) = not_boot sort (segment_inside mft _ held sort place wrong)
     by_rule s p (WrongMftStart boot held sort place is_boot segment maps wrong) = not_boot sort (stream_inside _ held _ sort place wrong)
-    by_rule s p (NoName boot mft number base found held is_boot are among kind bad) = tt
     by_rule s p (WrongPart boot mft number base found first more sort place is_boot are part wrong) = not_boot sort (stream_inside mft first more sort place wrong)
-    by_rule s p (TooLongUnreadable boot mft number base found first more stream is_boot are part unreadable is long) = tt
+    by_rule s p other = tt
 
 -- ---- the map of $MFT
 
@@ -105,8 +94,6 @@ mft_is_sound image at len boot mft place is_boot mft_is wrong = by_rule MftMap p
         mft_is_read image own mft (sym (ap (λ boot. result_of image (mft_of boot)) same) ∙ mft_is)
 
     by_rule : (s : Sort) (p : ℕ) → IsFalseAt image at len s p → IsNotMap s
-    by_rule s p (NoSectors magic none) = tt
-    by_rule s p (NoFirstCluster magic past) = tt
     by_rule s p (WrongSlot boot mft number sort place is_boot reached wrong) = not_map sort (slot_inside image mft number sort place wrong)
     by_rule s p (WrongListStream boot mft number base list sort place is_boot is clusters wrong) = not_map sort (stream_inside mft list _ sort place wrong)
     by_rule s p (WrongListEntry boot mft number base list content sort place is_boot has wrong) = not_map sort (list_inside mft list content sort place wrong)
@@ -119,6 +106,5 @@ mft_is_sound image at len boot mft place is_boot mft_is wrong = by_rule MftMap p
     by_rule s p (NoMftContent own base own_is base_is none) = has_content image own mft (read own own_is) base base_is none
     by_rule s p (WrongMftSegment boot mft held sort place is_boot segment maps wrong) = not_map sort (segment_inside mft _ held sort place wrong)
     by_rule s p (WrongMftStart boot held sort place is_boot segment maps wrong) = not_map sort (stream_inside _ held _ sort place wrong)
-    by_rule s p (NoName boot mft number base found held is_boot are among kind bad) = tt
     by_rule s p (WrongPart boot mft number base found first more sort place is_boot are part wrong) = not_map sort (stream_inside mft first more sort place wrong)
-    by_rule s p (TooLongUnreadable boot mft number base found first more stream is_boot are part unreadable is long) = tt
+    by_rule s p other = tt

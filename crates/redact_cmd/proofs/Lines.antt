@@ -54,27 +54,18 @@ too_great_from_parse word (Err error) numeral parses refused =
 -- the lines of words of each length
 pub command_of-two : {A : Type 0} (f : A → List ℕ) (words : List A) (a : A) → length words ≡ 2 → a ≡ get_or words 0 a → command_of (map f words) ≡ two_words (f a)
 unfolding command_of
-command_of-two f [] a count first = absurd (omega arith)
-command_of-two f (x ∷ []) a count first = absurd (omega arith)
 command_of-two f (x ∷ y ∷ []) a count first = ap (λ z. two_words (f z)) (sym first)
-command_of-two f (x ∷ y ∷ z ∷ rest) a count first = absurd (omega arith)
+command_of-two f other a count first = absurd (omega arith)
 
 pub command_of-three : {A : Type 0} (f : A → List ℕ) (words : List A) (a b c : A) → length words ≡ 3 → a ≡ get_or words 0 a → b ≡ get_or words 1 b → c ≡ get_or words 2 c → command_of (map f words) ≡ three_words (f a) (f b) (f c)
 unfolding command_of
-command_of-three f [] a b c count first second third = absurd (omega arith)
-command_of-three f (x ∷ []) a b c count first second third = absurd (omega arith)
-command_of-three f (x ∷ y ∷ []) a b c count first second third = absurd (omega arith)
 command_of-three f (x ∷ y ∷ z ∷ []) a b c count first second third = cc
-command_of-three f (x ∷ y ∷ z ∷ w ∷ rest) a b c count first second third = absurd (omega arith)
+command_of-three f other a b c count first second third = absurd (omega arith)
 
 pub command_of-four : {A : Type 0} (f : A → List ℕ) (words : List A) (a b c d : A) → length words ≡ 4 → a ≡ get_or words 0 a → b ≡ get_or words 1 b → c ≡ get_or words 2 c → d ≡ get_or words 3 d → command_of (map f words) ≡ four_words (f a) (f b) (f c) (f d)
 unfolding command_of
-command_of-four f [] a b c d count first second third fourth = absurd (omega arith)
-command_of-four f (x ∷ []) a b c d count first second third fourth = absurd (omega arith)
-command_of-four f (x ∷ y ∷ []) a b c d count first second third fourth = absurd (omega arith)
-command_of-four f (x ∷ y ∷ z ∷ []) a b c d count first second third fourth = absurd (omega arith)
 command_of-four f (x ∷ y ∷ z ∷ w ∷ []) a b c d count first second third fourth = cc
-command_of-four f (x ∷ y ∷ z ∷ w ∷ v ∷ rest) a b c d count first second third fourth = absurd (omega arith)
+command_of-four f other a b c d count first second third fourth = absurd (omega arith)
 
 -- fewer than two words, or more than four, are no line
 pub command_of-few : {A : Type 0} (f : A → List ℕ) (words : List A) → length words < 2 → command_of (map f words) ≡ None
@@ -85,11 +76,7 @@ command_of-few f (x ∷ y ∷ rest) count = absurd (omega arith)
 
 pub command_of-many : {A : Type 0} (f : A → List ℕ) (words : List A) → 5 ≤ length words → command_of (map f words) ≡ None
 unfolding command_of
-command_of-many f [] count = absurd (omega arith)
-command_of-many f (x ∷ []) count = absurd (omega arith)
-command_of-many f (x ∷ y ∷ []) count = absurd (omega arith)
-command_of-many f (x ∷ y ∷ z ∷ []) count = absurd (omega arith)
-command_of-many f (x ∷ y ∷ z ∷ w ∷ []) count = absurd (omega arith)
 command_of-many f (x ∷ y ∷ z ∷ w ∷ v ∷ rest) count = refl
+command_of-many f other count = absurd (omega arith)
 
 pub ruleset lines = (command_of-few, command_of-many)

@@ -74,10 +74,8 @@ reading_says (Some t) None before now W P rules fault reads untouched closed tel
 reading_says (Some t) (Some h) before now W P rules OtherKind reads untouched closed tells = (inr tells, λ says. closed)
 reading_says (Some t) (Some h) before now W P rules (Read read.Device) reads untouched closed tells = ((rules, reads), inl untouched)
 reading_says (Some t) (Some h) before now W P rules (Read read.NoMemory) reads untouched closed tells = tt
-reading_says (Some t) (Some h) before now W P rules (Read read.NotThis) reads untouched closed tells = (refuses t h.image rules _ reads tells, closed)
-reading_says (Some t) (Some h) before now W P rules (Read (read.Damaged sort place)) reads untouched closed tells = (refuses t h.image rules _ reads tells, closed)
-reading_says (Some t) (Some h) before now W P rules (Read (read.Unsupported what place)) reads untouched closed tells = (refuses t h.image rules _ reads tells, closed)
 reading_says (Some t) (Some h) before now W P rules (Read (read.Limit bound number)) reads untouched closed tells = (inl (refuses t h.image rules _ reads tells), closed)
+reading_says (Some t) (Some h) before now W P rules other reads untouched closed tells = (refuses t h.image rules _ reads tells, closed)
 
 pub no_tree : (text : Option (List ℕ)) (told : Option Held) (before now : State) (W P : List ℕ → Type 0) (rules : List Rule) (fault : ImageFault) (status : Status)
     → status ≡ status_of_reading fault → IfSome text (λ t. Reads t rules)

@@ -52,10 +52,8 @@ image_says (Some t) None W P rules fault reads tells = tt
 image_says (Some t) (Some i) W P rules OtherKind reads tells = inr tells
 image_says (Some t) (Some i) W P rules (Read read.Device) reads tells = (rules, reads)
 image_says (Some t) (Some i) W P rules (Read read.NoMemory) reads tells = tt
-image_says (Some t) (Some i) W P rules (Read read.NotThis) reads tells = refuses t i rules _ reads tells
-image_says (Some t) (Some i) W P rules (Read (read.Damaged sort place)) reads tells = refuses t i rules _ reads tells
-image_says (Some t) (Some i) W P rules (Read (read.Unsupported what place)) reads tells = refuses t i rules _ reads tells
 image_says (Some t) (Some i) W P rules (Read (read.Limit bound number)) reads tells = inl (refuses t i rules _ reads tells)
+image_says (Some t) (Some i) W P rules other reads tells = refuses t i rules _ reads tells
 
 -- where the image was not read
 pub image_refused : (text image : Option (List ℕ)) (W P : List ℕ → Type 0) (rules : List Rule) (fault : ImageFault) (status : Status) → status ≡ status_of_reading fault

@@ -42,10 +42,8 @@ other_middle line quoted head at front test name high low is =
     (ap (λ n. drop n head) long ∙ ap (drop (length name)) whole ∙ drop-append_seam name middle)
 
 two_digits : (digits : List ℕ) → length digits ≡ 2 → digits ≡ slice_index_or digits 0 0 ∷ slice_index_or digits 1 0 ∷ []
-two_digits [] two = absurd (omega arith)
-two_digits (a ∷ []) two = absurd (omega arith)
 two_digits (a ∷ b ∷ []) two = refl
-two_digits (a ∷ b ∷ c ∷ rest) two = absurd (omega arith)
+two_digits other two = absurd (omega arith)
 
 -- a line that was taken apart
 pub line-parts : (line quoted head digits name : List ℕ) → pointwise nat_eq (take 10 line) opening ≡ true → quoted ≡ drop 10 line

@@ -56,12 +56,10 @@ unfolding is_match
 is_match-behind [] some text takes matches = absurd (false≢true takes)
 is_match-behind (item ∷ items) [] text takes matches = absurd (false≢true takes)
 is_match-behind (Star ∷ items) (d ∷ some) text takes matches = absurd (false≢true takes)
-is_match-behind (Plain plain ∷ items) (d ∷ some) [] takes matches = absurd (false≢true matches)
-is_match-behind (AnyOne ∷ items) (d ∷ some) [] takes matches = absurd (false≢true matches)
-is_match-behind (OneOf class ∷ items) (d ∷ some) [] takes matches = absurd (false≢true matches)
 is_match-behind (Plain plain ∷ items) (d ∷ some) (c ∷ text) takes matches = (and_parts (item_takes (Plain plain) c) (is_match items text) matches).1
 is_match-behind (AnyOne ∷ items) (d ∷ some) (c ∷ text) takes matches = matches
 is_match-behind (OneOf class ∷ items) (d ∷ some) (c ∷ text) takes matches = (and_parts (item_takes (OneOf class) c) (is_match items text) matches).1
+is_match-behind other (d ∷ some) [] takes matches = absurd (false≢true matches)
 
 -- a try goes on where the first item takes the first character
 pub IsTried-taken : (run : List Item) (tried : List ℕ) (left : List Item) (rest : List ℕ) → IsTried run tried left rest
@@ -82,11 +80,8 @@ drop-swapped first last between text =
 -- where the items begin with a run, what is behind the run matches some rest
 pub is_match-behind_run : (items : List Item) (text : List ℕ) → begins_with_run items ≡ true → is_match items text ≡ some_rest (is_match (drop 1 items)) text
 unfolding is_match
-is_match-behind_run [] text run = absurd (false≢true run)
 is_match-behind_run (Star ∷ items) text run = refl
-is_match-behind_run (Plain plain ∷ items) text run = absurd (false≢true run)
-is_match-behind_run (AnyOne ∷ items) text run = absurd (false≢true run)
-is_match-behind_run (OneOf class ∷ items) text run = absurd (false≢true run)
+is_match-behind_run other text run = absurd (false≢true run)
 
 -- where a try comes to a run, what is behind the run decides
 pub some_rest-run : (run : List Item) (tried : List ℕ) (left : List Item) (rest : List ℕ) → IsTried run tried left rest → begins_with_run left ≡ true
@@ -115,12 +110,10 @@ unfolding is_match
 is_match-fails [] [] fails no_run goes_on = absurd (true≢false goes_on)
 is_match-fails [] (c ∷ text) fails no_run goes_on = refl
 is_match-fails (Star ∷ items) text fails no_run goes_on = absurd (true≢false no_run)
-is_match-fails (Plain plain ∷ items) [] fails no_run goes_on = refl
-is_match-fails (AnyOne ∷ items) [] fails no_run goes_on = refl
-is_match-fails (OneOf class ∷ items) [] fails no_run goes_on = refl
 is_match-fails (Plain plain ∷ items) (c ∷ text) fails no_run goes_on = and_left (item_takes (Plain plain) c) (is_match items text) fails
 is_match-fails (AnyOne ∷ items) (c ∷ text) fails no_run goes_on = absurd (true≢false fails)
 is_match-fails (OneOf class ∷ items) (c ∷ text) fails no_run goes_on = and_left (item_takes (OneOf class) c) (is_match items text) fails
+is_match-fails other [] fails no_run goes_on = refl
 
 -- where the whole text fails, a rest of what is behind its first character is left to try
 pub some_rest-next : (test : List ℕ → Bool) (text : List ℕ) (c : ℕ) (behind : List ℕ) → text ≡ c ∷ behind → test text ≡ false

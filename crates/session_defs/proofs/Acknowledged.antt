@@ -4,7 +4,7 @@ use Rattle.std.specs.List.{All, Contains, flat_map}
 use Rattle.std.proofs.lemmas.Bool.{cases_lt, cond_both}
 use Rattle.std.proofs.lemmas.List.{append_assoc, drop-replicate, drop_at, length-replicate, nil_from_length, take_at}
 use Rattle.std.proofs.lemmas.List.Elements.{All-append, All-cons, All-contains_itself, All-drop, All-head, All-nil, All-same, All-tail, All-take, All-weaker}
-use Rattle.disk_defs.specs.Story.{Change, Cut, Held, Sync, Write}
+use Rattle.disk_defs.specs.Story.{Change, Cut, Held, Write}
 use Rattle.disk_defs.specs.declared.Area.TheVariants.{Image, Journal}
 use Rattle.journal_defs.specs.Form.{is_complete, IsJournal, first_journal, groups_of, journal_bytes}
 use Rattle.journal_defs.specs.declared.TheConstants.{OPEN_GATE, SET_MARK}
@@ -29,9 +29,7 @@ Fills claims call = IsFillIn claims call.change
 
 leaves-fills : (claims : List Claim) (change : Change) → LeavesImage change → IsFillIn claims change
 leaves-fills claims (Write Image at bytes) leaves = absurd leaves
-leaves-fills claims (Write Journal at bytes) leaves = tt
-leaves-fills claims (Cut len) leaves = tt
-leaves-fills claims Sync leaves = tt
+leaves-fills claims other leaves = tt
 
 -- ---- the journal
 

@@ -51,9 +51,7 @@ module _ (image : List ℕ) where
 
   true_of : (refusal : Refusal) → IsWrong image_orders image whole 0 refusal → IsTrueOf image refusal
   true_of NotThis wrong = absurd wrong
-  true_of (Damaged sort place) wrong = wrong
-  true_of (Unsupported what place) wrong = wrong
-  true_of (Limit bound number) wrong = wrong
+  true_of other wrong = wrong
 
   refused : (refusal : Refusal) → found_in ≡ Err refusal → IsTrueOf image refusal
   refused refusal is =
