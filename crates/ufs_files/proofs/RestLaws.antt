@@ -1,5 +1,5 @@
 -- Items that are taken one after the other.
-use Rattle.std.specs.Prelude.{◌≡◌, ℕ, ◌+◌, ◌-◌, ◌<◌, List, [], ◌∷◌, ◌++◌, length, take, get_or}
+use Rattle.std.specs.Prelude.{◌≡◌, ◌+◌, ◌-◌, ◌<◌, List, [], ◌∷◌, ◌++◌, length, take, get_or, refl}
 use Rattle.std.proofs.Common.{arith, ap, sym, ◌∙◌, append_assoc, append-nil, length-append}
 use Rattle.std.proofs.Math.Seq.{get_or-append_seam}
 use Rattle.std.proofs.lemmas.List.{take_at}
@@ -23,6 +23,7 @@ none_left all rest of none = sym (of.is ∙ ap (λ list. taken all rest ++ list)
 -- one more
 pub record IsNext {X : Type 0} (all rest after : List X) (x : X) : Type 0 where
   pub here : (length (taken all rest) < length all) × (x ≡ get_or all (length (taken all rest)) x)
+  pub front : taken all rest ≡ take (length (taken all rest)) all
   pub more : taken all after ≡ taken all rest ++ x ∷ []
   pub left : IsRestOf all after
 
@@ -36,6 +37,7 @@ next_of {X = X} all rest after x of is =
     let more : taken all after ≡ front ++ x ∷ [] = ap (λ list. take (length all - length after) list) split ∙ take_at (front ++ x ∷ []) after (length all - length after) count in
     record {
       here = (omega (arith, long), sym (ap (λ list. get_or list (length front) x) whole ∙ get_or-append_seam front x after x));
+      front = sym (ap (λ list. take (length front) list) whole ∙ take_at front (x ∷ after) (length front) refl);
       more = more;
       left = record { is = split ∙ ap (λ list. list ++ after) (sym more) };
     }

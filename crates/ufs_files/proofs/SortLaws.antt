@@ -13,7 +13,7 @@ use Rattle.std.proofs.Common.{ap, sym, ◌∙◌, subst, arith, take}
 use Rattle.std.proofs.lemmas.Bool.Decides.{nat_tests}
 use Rattle.std.proofs.lemmas.Cmp.{nat_cmp_total, nat_list_cmp_total}
 use Rattle.std.proofs.lemmas.Fn.{always_returns_same}
-use Rattle.std.proofs.lemmas.List.{get_or-take, get_or_read, map-id, length-take}
+use Rattle.std.proofs.lemmas.List.{get_or-take, get_or_read, length-take}
 use Rattle.std.proofs.lemmas.List.Elements.{All-weaker, filter_agree}
 use Rattle.std.proofs.lemmas.List.Sorted.{IsNonDecreasingBy-from_sort, IsPermutation-map, IsPermutation-sym, Contains-permutation, ranks_by, length_permutation, sum_by-IsPermutation}
 use Rattle.order_defs.specs.Sorted.{sorted_names}
@@ -41,11 +41,11 @@ by_number {F} {g} {f} names list moved sorted stable gives =
     record { moved = moved; sorted = sorted number_of computes; stable = stable number_of computes }
 
 -- the numbers of the names in front of one are no greater than its own
-pub none_above : (names list done : List Named) (name : Named) → IsByNumber names list → map (λ (one : Named). one) done ≡ take (length done) list → (length done < length list) × (name ≡ get_or list (length done) name)
+pub none_above : (names list done : List Named) (name : Named) → IsByNumber names list → done ≡ take (length done) list → (length done < length list) × (name ≡ get_or list (length done) name)
     → All (λ one. one.number ≤ name.number) done
 none_above names list done name is front here =
     let P : List Named → Type 0 = λ some. All (λ one. one.number ≤ name.number) some in
-    subst P (sym front ∙ map-id done)
+    subst P (sym front)
     (λ k d inside.
     let low : k < length done = omega (arith, inside, length-take (length done) list) in
     let rise = IsNonDecreasingBy-from_sort number_of list is.sorted k (length done) d (omega (arith, low)) here.0 in
@@ -76,10 +76,10 @@ same_group names list group is of = record {
   };
 }
 
-pub same_groups : (names list done : List Named) (groups : List Group) → IsByNumber names list → map (λ (one : Named). one) done ≡ list → AreGroupsOf done groups → AreGroupsOf names groups
+pub same_groups : (names list done : List Named) (groups : List Group) → IsByNumber names list → done ≡ list → AreGroupsOf done groups → AreGroupsOf names groups
 same_groups names list done groups is whole of =
     let P : List Named → Type 0 = λ some. AreGroupsOf some groups in
-    let all : AreGroupsOf list groups = subst P (sym (map-id done) ∙ whole) of in
+    let all : AreGroupsOf list groups = subst P whole of in
     record {
       numbers =
           all.numbers

@@ -2,6 +2,7 @@
 ghost use Rattle.std.specs.Prelude.{◌≡◌, IfOk};
 ghost use Rattle.ufs_files.specs.Groups.{AreGroupsOf, with_name};
 
+use crate::rest::Rest;
 use rx_ranges::{NoMemory, Text};
 use std::alloc::Global;
 use std::marker::Model;
@@ -51,8 +52,9 @@ pub(crate) fn groups_of(alloc: Global, mut names: Vec<Name>) -> Result<Vec<Group
     ensures { IfOk result (λ groups. AreGroupsOf names.items groups.items) }
 {
     names.sort_by_key(|name| name.number)?;
+    let mut rest = Rest::of(names);
     let mut groups = Vec::new(alloc);
-    for name in names {
+    while let Some(name) = rest.next() {
         add_name(alloc, &mut groups, name)?;
     }
     Ok(groups)

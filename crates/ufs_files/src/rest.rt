@@ -3,8 +3,8 @@ ghost use Rattle.std.specs.Prelude.{◌≡◌, [], ◌∷◌, MatchOption};
 
 use std::marker::Model;
 
-/// Items that are taken one after the other. An item that was taken leaves no memory behind: the first stands last in the vector,
-/// which gets shorter.
+/// Items that are taken one after the other. Those that were taken leave little memory behind: the first stands last in the vector,
+/// which gets shorter as soon as an eighth of it is to spare.
 #[derive(Drop)]
 pub(crate) struct Rest<T> {
     reversed: Vec<T>,
@@ -32,7 +32,10 @@ impl<T> Rest<T> {
         ensures { MatchOption result (self.old ≡ []) (λ item. self.old ≡ item ∷ self.new) }
     {
         let item = self.reversed.pop();
-        self.reversed.shrink_to_fit();
+        let room = self.reversed.capacity();
+        if room - self.reversed.len() > room / 8 {
+            self.reversed.shrink_to_fit();
+        }
         item
     }
 }
