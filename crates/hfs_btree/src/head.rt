@@ -5,7 +5,7 @@ ghost use Rattle.disk_defs.specs.declared.Area.TheVariants.{Image};
 ghost use Rattle.hfs_btree.specs.Heads.{HasHead};
 ghost use Rattle.hfs_btree.specs.Lent.{IsStartRefusal};
 ghost use Rattle.hfs_defs.specs.Leaves.{tree_file};
-ghost use Rattle.hfs_defs.specs.Nodes.{is_node_size as is_node_size_by};
+ghost use Rattle.hfs_defs.specs.Nodes as spec;
 ghost use Rattle.piece_defs.specs.Joined.{AreInARow};
 ghost use Rattle.piece_defs.specs.Places.{bytes_through, AreWithin};
 ghost use Rattle.rx_store.specs.ReadFaults.{IsReadCounted};
@@ -26,7 +26,7 @@ pub(crate) struct Head {
 /// Whether a tree file of `len` bytes may have nodes of this size.
 #[tactic(auto, unfolding(hfs_defs::specs::Nodes::is_node_size))]
 fn is_node_size(len: u64, size: u16) -> bool
-    ensures is { result ≡ is_node_size_by len size }
+    ensures is { result ≡ spec.is_node_size len size }
 {
     size.is_power_of_two() && 512 <= size && size <= 32768 && u64::from(size) <= len
 }

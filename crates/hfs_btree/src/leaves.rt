@@ -2,10 +2,11 @@
 ghost use Rattle.std.specs.Prelude.{◌≡◌, ◌+◌, ◌*◌, ◌<◌, ◌≤◌, true, length, [], IfOk, IfErr, IfSome, OnOk};
 ghost use Rattle.disk_defs.specs.Disk.{size_of, told_image};
 ghost use Rattle.disk_defs.specs.declared.Area.TheVariants.{Image};
-ghost use Rattle.hfs_btree.specs.Cursor.{rest_of, steps_left, must_enter as must_enter_by, Enters, Advances, Steps, KeepsFile, FallsAt, IsNextRefusal};
+ghost use Rattle.hfs_btree.specs.Cursor as cursor_spec;
+ghost use Rattle.hfs_btree.specs.Cursor.{rest_of, steps_left, Enters, Advances, Steps, KeepsFile, FallsAt, IsNextRefusal};
 ghost use Rattle.hfs_btree.specs.Lent.{leaf, IsLent, Starts, IsStartRefusal, IsNext, HasKeyLength};
 ghost use Rattle.hfs_defs.specs.Leaves.{leaf_of, tree_file};
-ghost use Rattle.hfs_defs.specs.Nodes.{is_record as is_record_by};
+ghost use Rattle.hfs_defs.specs.Nodes as nodes_spec;
 ghost use Rattle.piece_defs.specs.Joined.{AreInARow};
 ghost use Rattle.piece_defs.specs.Places.{bytes_through, AreWithin};
 ghost use Rattle.rx_store.specs.ReadFaults.{IsReadCounted};
@@ -45,6 +46,7 @@ pub struct Leaves {
 impl Model for Leaves {
     ghost use Rattle.std.specs.Prelude.{length, ◌-◌};
     ghost use Rattle.hfs_defs.specs.Leaves.{leaves_from};
+    ghost use Rattle.hfs_btree.specs.Cursor as cursor_spec;
     ghost use Rattle.hfs_btree.specs.Cursor.{Cursor, current_of};
     ghost use Rattle.hfs_btree.specs.Kept.{IsKept};
 
@@ -79,7 +81,7 @@ fn record_of<'a>(
     requires long { 512 ≤ length node.now }
     requires short { length node.now ≤ 65535 }
     requires room { 2 * (index + 2) ≤ length node.now }
-    requires record { is_record_by node.now index ≡ true }
+    requires record { nodes_spec.is_record node.now index ≡ true }
     ensures is { leaf result ≡ leaf_of pieces.now number node.now index }
     ensures sized { 2 ≤ length result.bytes.now }
 {
@@ -106,7 +108,7 @@ impl Leaves {
 
     /// Whether the chain goes on and the node has no more records.
     fn must_enter(&self) -> bool
-        ensures { result ≡ must_enter_by self.now.pending self.now.next }
+        ensures { result ≡ cursor_spec.must_enter self.now.pending self.now.next }
     {
         self.index == self.count && self.way.following != 0
     }
@@ -114,7 +116,7 @@ impl Leaves {
     /// Reads the node that follows.
     fn enter<S: Store>(&mut self, store: &mut S) -> Result<(), ReadFault>
         requires within { AreWithin (size_of Image (S.state store.old)) self.old.pieces }
-        requires enters { must_enter_by self.old.pending self.old.next ≡ true }
+        requires enters { cursor_spec.must_enter self.old.pending self.old.next ≡ true }
         ensures told { IfSome (told_image (S.state store.old)) (λ image. Enters (rest_of image self.old) result (rest_of image self.new)) }
         ensures keeps { KeepsFile self.old self.new }
         ensures falls { OnOk result (steps_left self.new < steps_left self.old) }

@@ -1,6 +1,6 @@
 //! The bytes of a node.
 ghost use Rattle.std.specs.Prelude.{◌≡◌, ◌+◌, ◌*◌, ◌<◌, ◌≤◌, length};
-ghost use Rattle.hfs_defs.specs.Nodes.{record_count as record_count_by, record_offset as record_offset_by, is_record as is_record_by, are_records as are_records_by, is_sound_node as is_sound_node_by, is_leaf as is_leaf_by, next_node as next_node_by};
+ghost use Rattle.hfs_defs.specs.Nodes as spec;
 
 use bytes_defs::Order::Big;
 use bytes_defs::field::{u16_at, u32_at};
@@ -8,7 +8,7 @@ use bytes_defs::field::{u16_at, u32_at};
 /// Whether a node is a leaf.
 pub(crate) fn is_leaf(node: &[u8]) -> bool
     requires { 512 ≤ length node.now }
-    ensures { result ≡ is_leaf_by node.now }
+    ensures { result ≡ spec.is_leaf node.now }
 {
     node[8] == 255
 }
@@ -16,7 +16,7 @@ pub(crate) fn is_leaf(node: &[u8]) -> bool
 /// The next node on its level.
 pub(crate) fn next_node(node: &[u8]) -> u32
     requires { 512 ≤ length node.now }
-    ensures { result ≡ next_node_by node.now }
+    ensures { result ≡ spec.next_node node.now }
 {
     u32_at(Big, node, 0)
 }
@@ -24,7 +24,7 @@ pub(crate) fn next_node(node: &[u8]) -> u32
 /// How many records a node has.
 pub(crate) fn record_count(node: &[u8]) -> u16
     requires { 512 ≤ length node.now }
-    ensures { result ≡ record_count_by node.now }
+    ensures { result ≡ spec.record_count node.now }
 {
     u16_at(Big, node, 10)
 }
@@ -32,7 +32,7 @@ pub(crate) fn record_count(node: &[u8]) -> u16
 /// The offset of a record, or of the free space behind the last.
 pub(crate) fn record_offset(node: &[u8], i: usize) -> usize
     requires { 2 * (i + 1) ≤ length node.now }
-    ensures value { result ≡ record_offset_by node.now i }
+    ensures value { result ≡ spec.record_offset node.now i }
     ensures short { result < 65536 }
 {
     usize::from(u16_at(Big, node, node.len() - 2 * (i + 1)))
@@ -41,9 +41,9 @@ pub(crate) fn record_offset(node: &[u8], i: usize) -> usize
 /// Whether a record stands between the descriptor and the table of offsets, and its key ends in it.
 #[tactic(auto, unfolding(hfs_defs::specs::Nodes::is_record))]
 fn is_record(node: &[u8], i: usize) -> bool
-    requires below { i < record_count_by node.now }
-    requires room { 14 + 2 * (record_count_by node.now + 1) ≤ length node.now }
-    ensures { result ≡ is_record_by node.now i }
+    requires below { i < spec.record_count node.now }
+    requires room { 14 + 2 * (spec.record_count node.now + 1) ≤ length node.now }
+    ensures { result ≡ spec.is_record node.now i }
 {
     let begin = record_offset(node, i);
     let end = record_offset(node, i + 1);
@@ -56,8 +56,8 @@ fn is_record(node: &[u8], i: usize) -> bool
 
 /// Whether all records do.
 fn are_records(node: &[u8]) -> bool
-    requires { 14 + 2 * (record_count_by node.now + 1) ≤ length node.now }
-    ensures { result ≡ are_records_by (record_count_by node.now) node.now 0 }
+    requires { 14 + 2 * (spec.record_count node.now + 1) ≤ length node.now }
+    ensures { result ≡ spec.are_records (spec.record_count node.now) node.now 0 }
 {
     let count = usize::from(u16_at(Big, node, 10));
     for i in 0..count {
@@ -72,7 +72,7 @@ fn are_records(node: &[u8]) -> bool
 #[tactic(auto, unfolding(hfs_defs::specs::Nodes::is_sound_node))]
 pub(crate) fn is_sound_node(node: &[u8]) -> bool
     requires { 512 ≤ length node.now }
-    ensures { result ≡ is_sound_node_by node.now }
+    ensures { result ≡ spec.is_sound_node node.now }
 {
     let count = usize::from(u16_at(Big, node, 10));
     if node.len() < 14 + 2 * (count + 1) {

@@ -3,8 +3,8 @@ ghost use Rattle.std.specs.Prelude.{◌≡◌, ◌+◌, ◌*◌, ◌-◌, ◌/�
 ghost use Rattle.disk_defs.specs.Disk.{size_of, told_image};
 ghost use Rattle.disk_defs.specs.declared.Area.TheVariants.{Image};
 ghost use Rattle.hfs_btree.specs.Cursor.{file_on, IsEntered, IsNextRefusal};
-ghost use Rattle.hfs_defs.specs.Leaves.{image_place as image_place_by};
-ghost use Rattle.hfs_defs.specs.Nodes.{is_sound_node as is_sound_node_by};
+ghost use Rattle.hfs_defs.specs.Leaves as leaves_spec;
+ghost use Rattle.hfs_defs.specs.Nodes as nodes_spec;
 ghost use Rattle.piece_defs.specs.Joined.{AreInARow};
 ghost use Rattle.piece_defs.specs.Places.{AreWithin};
 ghost use Rattle.rx_store.specs.ReadFaults.{IsReadCounted};
@@ -26,7 +26,7 @@ pub(crate) struct Way {
 pub(crate) fn image_place(pieces: &[Piece], len: u64, byte: u64) -> u64
     requires covered { AreInARow 0 len pieces.now }
     requires reach { AreWithin 18446744073709551615 pieces.now }
-    ensures { result ≡ image_place_by pieces.now byte }
+    ensures { result ≡ leaves_spec.image_place pieces.now byte }
 {
     for piece in pieces {
         if byte < piece.from + piece.len {
@@ -56,7 +56,7 @@ pub(crate) fn read_leaf<S: Store>(
     ensures told { IfSome (told_image (S.state store.old))
         (λ image. IsEntered (file_on image pieces.now fork_data (length node.old)) way.link way.following way.left result node.new) }
     ensures more { IfOk result (λ place. 0 < way.left) }
-    ensures sound { IfOk result (λ place. is_sound_node_by node.new ≡ true) }
+    ensures sound { IfOk result (λ place. nodes_spec.is_sound_node node.new ≡ true) }
     ensures refusals { IfErr result IsNextRefusal }
     ensures same { S.state store.new ≡ S.state store.old }
     ensures counted { IsReadCounted Image result (S.faults store.old) (S.faults store.new) }

@@ -1,6 +1,7 @@
 //! Extents: their blocks, and which of them pass the volume's end.
 ghost use Rattle.std.specs.Prelude.{◌≡◌, ◌+◌, ◌*◌, ◌^◌, ◌<◌, ◌≤◌, length, IsTrue, IfNone};
-ghost use Rattle.hfs_defs.specs.Forks.{blocks_in as blocks_in_by, first_passing as first_passing_by, written_from, follow_on, written_extents, is_whole as is_whole_by, fork_fault as fork_fault_by};
+ghost use Rattle.hfs_defs.specs.Forks as spec;
+ghost use Rattle.hfs_defs.specs.Forks.{written_from, follow_on, written_extents};
 ghost use Rattle.hfs_extents.specs.Extents.{AreNear};
 
 use fault_defs::{Refusal, Sort};
@@ -10,7 +11,7 @@ use hfs_defs::header::Header;
 /// The blocks of at most eight extents together.
 pub(crate) fn blocks_in(extents: &[Extent]) -> u64
     requires { length extents.now ≤ 8 }
-    ensures value { result ≡ blocks_in_by extents.now }
+    ensures value { result ≡ spec.blocks_in extents.now }
     ensures few { result < 2 ^ 35 }
 {
     let mut sum = 0;
@@ -24,7 +25,7 @@ pub(crate) fn blocks_in(extents: &[Extent]) -> u64
 fn passing_in(total: u32, extents: &[Extent], at: u64) -> Option<u64>
     requires few { length extents.now ≤ 8 }
     requires room { at < 2 ^ 63 }
-    ensures { result ≡ first_passing_by total (written_from at extents.now) }
+    ensures { result ≡ spec.first_passing total (written_from at extents.now) }
 {
     let mut place = at;
     for extent in extents {
@@ -42,7 +43,7 @@ fn passing_in(total: u32, extents: &[Extent], at: u64) -> Option<u64>
 fn first_passing(total: u32, records: &[OverflowRecord], fork: &Fork, place: u64) -> Option<u64>
     requires near { place < 2 ^ 62 }
     requires records_near { AreNear records.now }
-    ensures { result ≡ first_passing_by total (written_extents records.now fork.now place) }
+    ensures { result ≡ spec.first_passing total (written_extents records.now fork.now place) }
 {
     if let Some(at) = passing_in(total, &fork.extents, place + 16) {
         return Some(at);
@@ -57,7 +58,7 @@ fn first_passing(total: u32, records: &[OverflowRecord], fork: &Fork, place: u64
 
 /// Whether the extents are all blocks of the fork, and hold its bytes.
 fn is_whole(header: &Header, records: &[OverflowRecord], fork: &Fork) -> bool
-    ensures value { result ≡ is_whole_by header.now records.now fork.now }
+    ensures value { result ≡ spec.is_whole header.now records.now fork.now }
     ensures fits { IsTrue result → fork.now.total_blocks * header.now.block_size < 2 ^ 64 }
 {
     let mut sum = blocks_in(&fork.extents);
@@ -81,7 +82,7 @@ pub(crate) fn fork_fault(
 ) -> Option<Refusal>
     requires near { place < 2 ^ 62 }
     requires records_near { AreNear records.now }
-    ensures value { result ≡ fork_fault_by header.now records.now fork.now place }
+    ensures value { result ≡ spec.fork_fault header.now records.now fork.now place }
     ensures fits { IfNone result (fork.now.total_blocks * header.now.block_size < 2 ^ 64) }
 {
     if let Some(at) = first_passing(header.total_blocks, records, fork, place) {

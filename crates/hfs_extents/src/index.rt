@@ -2,7 +2,7 @@
 ghost use Rattle.std.specs.Prelude.{◌≡◌, ◌==◌, IfOk};
 ghost use Rattle.std.specs.List.{filter};
 ghost use Rattle.std.specs.List.Sorted.{IsNonDecreasingBy};
-ghost use Rattle.hfs_defs.specs.Forks.{records_of as records_of_by};
+ghost use Rattle.hfs_defs.specs.Forks as spec;
 ghost use Rattle.hfs_extents.specs.Index.{entries_by_file};
 
 use hfs_defs::forks::OverflowRecord;
@@ -50,7 +50,7 @@ pub(crate) fn records_of(
     fork_type: u8,
 ) -> Result<Vec<OverflowRecord>, AllocError>
     requires { entries.now ≡ entries_by_file records.now }
-    ensures { IfOk result (λ found. found.items ≡ records_of_by records.now file fork_type) }
+    ensures { IfOk result (λ found. found.items ≡ spec.records_of records.now file fork_type) }
 {
     let mut found = Vec::new(alloc);
     if file == 3 {

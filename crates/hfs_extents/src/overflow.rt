@@ -2,7 +2,8 @@
 ghost use Rattle.std.specs.Prelude.{◌≡◌, ◌+◌, ◌^◌, ◌<◌, ◌≤◌, IfOk, IfErr, IfSome};
 ghost use Rattle.disk_defs.specs.Disk.{size_of, told_image};
 ghost use Rattle.disk_defs.specs.declared.Area.TheVariants.{Image};
-ghost use Rattle.hfs_defs.specs.Forks.{byte_place, extents_with, found_fork, records_of as records_of_by};
+ghost use Rattle.hfs_defs.specs.Forks as spec;
+ghost use Rattle.hfs_defs.specs.Forks.{byte_place, extents_with, found_fork};
 ghost use Rattle.hfs_defs.specs.Header.{IsSoundHeader};
 ghost use Rattle.hfs_extents.specs.Extents.{AreNear};
 ghost use Rattle.hfs_extents.specs.Found.{found_in, IsForkRefusal, TellsFork};
@@ -109,9 +110,9 @@ pub fn fork_pieces(
     requires sound { IsSoundHeader header.now }
     requires ends { header.now.at + header.now.len ≤ LONGEST_IMAGE }
     requires near { place ≤ 140737488355328 }
-    ensures found { Answers (found_in result) (found_fork header.now (records_of_by overflow.now file fork_type) fork.now place) }
-    ensures tells { TellsFork header.now (records_of_by overflow.now file fork_type) fork.now place result }
-    ensures placed { IfOk result (λ runs. ArePiecesAt (byte_place header.now (extents_with (records_of_by overflow.now file fork_type) fork.now)) fork.now.logical_size runs.pieces) }
+    ensures found { Answers (found_in result) (found_fork header.now (spec.records_of overflow.now file fork_type) fork.now place) }
+    ensures tells { TellsFork header.now (spec.records_of overflow.now file fork_type) fork.now place result }
+    ensures placed { IfOk result (λ runs. ArePiecesAt (byte_place header.now (extents_with (spec.records_of overflow.now file fork_type) fork.now)) fork.now.logical_size runs.pieces) }
     ensures covered { IfOk result (λ runs. AreInARow 0 fork.now.logical_size runs.pieces) }
     ensures within { IfOk result (λ runs. AreWithin (header.now.at + header.now.len) runs.pieces) }
     ensures refusals { IfErr result (IsForkRefusal place) }

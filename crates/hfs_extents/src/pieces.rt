@@ -1,6 +1,7 @@
 //! The pieces of a content in extents, and what the extents have behind it.
 ghost use Rattle.std.specs.Prelude.{◌≡◌, ◌+◌, ◌*◌, ◌^◌, ◌<◌, ◌≤◌, ◌++◌, [], All, IfOk};
-ghost use Rattle.hfs_defs.specs.Forks.{blocks_in, extent_bytes as extent_bytes_by, extent_piece as extent_piece_by, extent_rest as extent_rest_by, pieces_of as pieces_of_by, slack_of as slack_of_by, rests_from, range_in_front};
+ghost use Rattle.hfs_defs.specs.Forks as spec;
+ghost use Rattle.hfs_defs.specs.Forks.{blocks_in, rests_from, range_in_front};
 ghost use Rattle.hfs_extents.specs.Extents.{EndsIn, EndsBy, LiesInImage, put_some};
 ghost use Rattle.piece_defs.specs.Places.{AreWithin};
 ghost use Rattle.range_defs.specs.declared.TheConstants.{LONGEST_IMAGE};
@@ -38,7 +39,7 @@ fn push_range(ranges: &mut Vec<Range>, range: Range) -> Result<(), AllocError>
 
 /// The bytes of an extent.
 fn extent_bytes(header: &Header, extent: Extent) -> u64
-    ensures { result ≡ extent_bytes_by header.now extent }
+    ensures { result ≡ spec.extent_bytes header.now extent }
 {
     u64::from(extent.count) * u64::from(header.block_size)
 }
@@ -48,7 +49,7 @@ fn extent_piece(header: &Header, size: u64, from: u64, extent: Extent) -> Piece
     requires lies { LiesInImage header.now }
     requires inside { EndsIn header.now.total_blocks extent }
     requires some { 0 < extent.count }
-    ensures value { result ≡ extent_piece_by header.now size from extent }
+    ensures value { result ≡ spec.extent_piece header.now size from extent }
     ensures within { result.at + result.len ≤ header.now.at + header.now.len }
 {
     Piece {
@@ -70,7 +71,7 @@ pub(crate) fn pieces_of(
     requires lies { LiesInImage header.now }
     requires inside { All (EndsIn header.now.total_blocks) extents.now }
     requires few { blocks_in extents.now * header.now.block_size < 2 ^ 64 }
-    ensures value { IfOk result (λ pieces. pieces ≡ pieces_of_by header.now size extents.now) }
+    ensures value { IfOk result (λ pieces. pieces ≡ spec.pieces_of header.now size extents.now) }
     ensures within { IfOk result (λ pieces. AreWithin (header.now.at + header.now.len) pieces) }
 {
     let mut pieces = Vec::new(alloc);
@@ -90,7 +91,7 @@ fn extent_rest(header: &Header, size: u64, from: u64, extent: Extent) -> Range
     requires lies { LiesInImage header.now }
     requires inside { EndsIn header.now.total_blocks extent }
     requires some { 0 < extent.count }
-    ensures value { result ≡ extent_rest_by header.now size from extent }
+    ensures value { result ≡ spec.extent_rest header.now size from extent }
     ensures within { result.at + result.len ≤ header.now.at + header.now.len }
 {
     let piece = extent_piece(header, size, from, extent);
@@ -136,7 +137,7 @@ pub(crate) fn slack_of(
     requires lies { LiesInImage header.now }
     requires inside { All (EndsIn header.now.total_blocks) extents.now }
     requires few { blocks_in extents.now * header.now.block_size < 2 ^ 64 }
-    ensures { IfOk result (λ slack. slack ≡ slack_of_by header.now size extents.now) }
+    ensures { IfOk result (λ slack. slack ≡ spec.slack_of header.now size extents.now) }
 {
     RangeList::from_ranges(alloc, rests_of(alloc, header, size, extents)?)
 }

@@ -4,7 +4,8 @@ ghost use Rattle.disk_defs.specs.Disk.{size_of, told_image};
 ghost use Rattle.disk_defs.specs.declared.Area.TheVariants.{Image};
 ghost use Rattle.hfs_btree.specs.Cursor.{rest_of};
 ghost use Rattle.hfs_btree.specs.Lent.{leaf};
-ghost use Rattle.hfs_defs.specs.Overflow.{is_overflow_record as is_overflow_record_by, checked_overflow, overflow_records};
+ghost use Rattle.hfs_defs.specs.Overflow as spec;
+ghost use Rattle.hfs_defs.specs.Overflow.{checked_overflow, overflow_records};
 ghost use Rattle.hfs_extents.specs.Extents.{AreNear};
 ghost use Rattle.hfs_extents.specs.Overflow.{IsNear, IsRecordRefusal};
 ghost use Rattle.piece_defs.specs.Places.{AreWithin};
@@ -25,7 +26,7 @@ use std::alloc::Global;
 #[tactic(auto, unfolding(hfs_defs::specs::Overflow::is_overflow_record))]
 fn is_overflow_record(bytes: &[u8]) -> bool
     requires { 2 ≤ length bytes.now }
-    ensures value { result ≡ is_overflow_record_by bytes.now }
+    ensures value { result ≡ spec.is_overflow_record bytes.now }
     ensures long { IsTrue result → 76 ≤ length bytes.now }
 {
     u16_at(Big, bytes, 0) == 10 && bytes.len() >= 76

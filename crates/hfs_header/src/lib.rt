@@ -13,7 +13,8 @@ ghost use Rattle.bytes_defs.specs.Bytes.{part};
 ghost use Rattle.disk_defs.specs.Count.{IsCountedIn};
 ghost use Rattle.disk_defs.specs.Disk.{size_of, told_image};
 ghost use Rattle.disk_defs.specs.declared.Area.TheVariants.{Image};
-ghost use Rattle.hfs_defs.specs.Header.{is_magic as is_magic_by, header_of, wrong_field, checked as checked_by, volume_header, IsSoundHeader};
+ghost use Rattle.hfs_defs.specs.Header as spec;
+ghost use Rattle.hfs_defs.specs.Header.{header_of, wrong_field, volume_header, IsSoundHeader};
 ghost use Rattle.hfs_header.specs.Refusals.{IsHeaderRefusal, TellsHeader};
 ghost use Rattle.image_defs.specs.Ask.{result_of};
 ghost use Rattle.rx_store.specs.Answers.{Answers};
@@ -38,7 +39,7 @@ fn read_bytes<const N: usize, S: Store>(store: &mut S, at: u64) -> Result<[u8; N
 
 /// Whether these bytes are the magic of HFS+.
 fn is_magic(bytes: &[u8]) -> bool
-    ensures { result ≡ is_magic_by bytes.now }
+    ensures { result ≡ spec.is_magic bytes.now }
 {
     bytes == b"H+\x00\x04".as_slice() || bytes == b"HX\x00\x05".as_slice()
 }
@@ -47,7 +48,7 @@ fn is_magic(bytes: &[u8]) -> bool
 fn checked(header: Header) -> Result<Header, ReadFault>
     requires ends { header.at + header.len ≤ 18446744073709551615 }
     requires long { 2560 ≤ header.len }
-    ensures answer { Answers result (checked_by header (wrong_field header)) }
+    ensures answer { Answers result (spec.checked header (wrong_field header)) }
     ensures is { IfOk result (λ found. found ≡ header) }
     ensures calm { result ≢ Err ReadFault.Device }
     ensures sound { IfOk result IsSoundHeader }

@@ -4,7 +4,8 @@ ghost use Rattle.bytes_defs.specs.Bytes.{part};
 ghost use Rattle.disk_defs.specs.Count.{IsCountedIn};
 ghost use Rattle.disk_defs.specs.Disk.{size_of, told_image};
 ghost use Rattle.disk_defs.specs.declared.Area.TheVariants.{Image};
-ghost use Rattle.tree_defs.specs.Kind.{is_ntfs as is_ntfs_by, is_hfs as is_hfs_by, other_kind};
+ghost use Rattle.tree_defs.specs.Kind as spec;
+ghost use Rattle.tree_defs.specs.Kind.{other_kind};
 
 use disk_defs::Fault;
 use rx_store::{Area, Store};
@@ -24,14 +25,14 @@ fn read_bytes<const N: usize, S: Store>(store: &mut S, at: u64) -> Result<[u8; N
 
 /// Whether these bytes are the magic of NTFS.
 fn is_ntfs(name: &[u8], mark: &[u8]) -> bool
-    ensures { result ≡ is_ntfs_by name.now mark.now }
+    ensures { result ≡ spec.is_ntfs name.now mark.now }
 {
     name == b"NTFS    ".as_slice() && mark == b"\x55\xAA".as_slice()
 }
 
 /// Whether these bytes are the magic of HFS+.
 fn is_hfs(signature: &[u8]) -> bool
-    ensures { result ≡ is_hfs_by signature.now }
+    ensures { result ≡ spec.is_hfs signature.now }
 {
     signature == b"H+\x00\x04".as_slice() || signature == b"HX\x00\x05".as_slice()
 }
@@ -39,7 +40,7 @@ fn is_hfs(signature: &[u8]) -> bool
 /// Whether the image of `len` bytes has the magic of NTFS, which ends at byte 512.
 fn has_ntfs<S: Store>(store: &mut S, len: u64) -> Result<bool, Fault>
     requires { len ≡ size_of Image (S.state store.old) }
-    ensures told { IfOk result (λ fits. IfSome (told_image (S.state store.old)) (λ image. fits ≡ is_ntfs_by (part image 3 8) (part image 510 2))) }
+    ensures told { IfOk result (λ fits. IfSome (told_image (S.state store.old)) (λ image. fits ≡ spec.is_ntfs (part image 3 8) (part image 510 2))) }
     ensures same { S.state store.new ≡ S.state store.old }
     ensures counted { IsCountedIn Image result (S.faults store.old) (S.faults store.new) }
 {
@@ -54,7 +55,7 @@ fn has_ntfs<S: Store>(store: &mut S, len: u64) -> Result<bool, Fault>
 /// Whether the image of `len` bytes has the magic of HFS+, which ends at byte 1,028.
 fn has_hfs<S: Store>(store: &mut S, len: u64) -> Result<bool, Fault>
     requires { len ≡ size_of Image (S.state store.old) }
-    ensures told { IfOk result (λ fits. IfSome (told_image (S.state store.old)) (λ image. fits ≡ is_hfs_by (part image 1024 4))) }
+    ensures told { IfOk result (λ fits. IfSome (told_image (S.state store.old)) (λ image. fits ≡ spec.is_hfs (part image 1024 4))) }
     ensures same { S.state store.new ≡ S.state store.old }
     ensures counted { IsCountedIn Image result (S.faults store.old) (S.faults store.new) }
 {

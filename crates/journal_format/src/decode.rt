@@ -3,8 +3,8 @@ ghost use Rattle.std.specs.Prelude.{◌≡◌, ◌≢◌, ◌+◌, ◌*◌, ◌<
 ghost use Rattle.bytes_defs.specs.Bytes.{part};
 ghost use Rattle.disk_defs.specs.Disk.{size_of, told_of};
 ghost use Rattle.disk_defs.specs.declared.Area.TheVariants.{Journal};
-ghost use Rattle.journal_defs.specs.Checks as table;
-ghost use Rattle.journal_defs.specs.Form as form;
+ghost use Rattle.journal_defs.specs.Checks as checks_spec;
+ghost use Rattle.journal_defs.specs.Form as form_spec;
 ghost use Rattle.journal_defs.specs.Form.{group_count};
 ghost use Rattle.rx_ranges.specs.declared.plan.TheConstants.{MAX_LISTING_BYTES, MAX_RANGES};
 ghost use Rattle.journal_defs.specs.Reading.{plan_in};
@@ -26,14 +26,14 @@ use std::alloc::Global;
 
 /// Whether a mark is set.
 fn is_set(mark: u8) -> bool
-    ensures { result ≡ form.is_set mark }
+    ensures { result ≡ form_spec.is_set mark }
 {
     mark == SET_MARK
 }
 
 /// Which of these marks are set.
 fn set_marks(alloc: Global, bytes: &[u8]) -> Result<Vec<bool>, NoMemory>
-    ensures { IfOk result (λ marks. marks.items ≡ map form.is_set bytes.now) }
+    ensures { IfOk result (λ marks. marks.items ≡ map form_spec.is_set bytes.now) }
 {
     bytes.iter().map(|mark| is_set(*mark)).collect(alloc)
 }
@@ -42,7 +42,7 @@ fn set_marks(alloc: Global, bytes: &[u8]) -> Result<Vec<bool>, NoMemory>
 pub(crate) fn checked_header(bytes: &[u8], len: u64) -> Result<Header, JournalFault>
     requires header { 40 ≤ length bytes.now }
     requires long { 41 ≤ len }
-    ensures says { FailsAs (table.header_checks bytes.now len) result }
+    ensures says { FailsAs (checks_spec.header_checks bytes.now len) result }
     ensures is { IfOk result (λ header. header ≡ header_in bytes.now) }
     ensures few { IfOk result (λ header. header.ranges ≤ MAX_RANGES) }
     ensures short { IfOk result (λ header. header.listing_len ≤ MAX_LISTING_BYTES) }
@@ -101,7 +101,7 @@ fn read_groups<S: Store>(
     requires window { IsWindow (told_of Journal (S.state store.old)) (size_of Journal (S.state store.old)) window.old }
     requires inside { at + groups ≤ size_of Journal (S.state store.old) }
     requires few { groups ≤ 65536 }
-    ensures read { ReadsPart (told_of Journal (S.state store.old)) at (λ _. at + groups) Always (λ _. []) (λ marks whole. marks ≡ map form.is_set (part whole at groups)) result }
+    ensures read { ReadsPart (told_of Journal (S.state store.old)) at (λ _. at + groups) Always (λ _. []) (λ marks whole. marks ≡ map form_spec.is_set (part whole at groups)) result }
     ensures window { OnOk result (IsWindow (told_of Journal (S.state store.old)) (size_of Journal (S.state store.old)) window.new) }
     ensures same { S.state store.new ≡ S.state store.old }
     ensures counted { IsReadCounted result (S.faults store.old) (S.faults store.new) }
@@ -115,7 +115,7 @@ fn read_groups<S: Store>(
 fn read_last<S: Store>(window: &mut Window, store: &mut S, at: u64) -> Result<bool, JournalFault>
     requires window { IsWindow (told_of Journal (S.state store.old)) (size_of Journal (S.state store.old)) window.old }
     requires inside { at + 1 ≤ size_of Journal (S.state store.old) }
-    ensures read { ReadsPart (told_of Journal (S.state store.old)) at (λ _. at + 1) Always (λ _. []) (λ last whole. last ≡ form.is_set (slice_index whole at)) result }
+    ensures read { ReadsPart (told_of Journal (S.state store.old)) at (λ _. at + 1) Always (λ _. []) (λ last whole. last ≡ form_spec.is_set (slice_index whole at)) result }
     ensures same { S.state store.new ≡ S.state store.old }
     ensures counted { IsReadCounted result (S.faults store.old) (S.faults store.new) }
 {

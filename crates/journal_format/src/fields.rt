@@ -2,7 +2,7 @@
 ghost use Rattle.std.specs.Prelude.{◌≡◌, ◌+◌, ◌*◌, ◌≤◌, ◌&&◌, ◌==◌, codes, not, nat_le, length};
 ghost use Rattle.std.specs.Str.{bytes_eq};
 ghost use Rattle.bytes_defs.specs.Bytes.{part};
-ghost use Rattle.journal_defs.specs.Checks as table;
+ghost use Rattle.journal_defs.specs.Checks as spec;
 ghost use Rattle.journal_defs.specs.Form.{group_count};
 ghost use Rattle.journal_defs.specs.Reading.{claim_in};
 ghost use Rattle.journal_format.specs.Header.{header_in};
@@ -83,7 +83,7 @@ fn has_text(bytes: &[u8]) -> bool
 /// The place of the first check that fails.
 #[tactic(auto, unfolding(journal_defs::specs::Checks::first_failing))]
 pub(crate) fn first_failing(checks: &[(u64, bool)]) -> Option<u64>
-    ensures { result ≡ table.first_failing checks.now }
+    ensures { result ≡ spec.first_failing checks.now }
 {
     for check in checks {
         if !check.1 {
@@ -98,7 +98,7 @@ pub(crate) fn first_failing(checks: &[(u64, bool)]) -> Option<u64>
 pub(crate) fn header_checks(bytes: &[u8], len: u64) -> [(u64, bool); 6]
     requires header { 40 ≤ length bytes.now }
     requires long { 40 ≤ len }
-    ensures { result ≡ table.header_checks bytes.now len }
+    ensures { result ≡ spec.header_checks bytes.now len }
 {
     let header = Header::of(bytes);
     [

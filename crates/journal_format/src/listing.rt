@@ -5,8 +5,8 @@ ghost use Rattle.bytes_defs.specs.Bytes.{part};
 ghost use Rattle.bytes_defs.specs.Numbers.{little_at};
 ghost use Rattle.disk_defs.specs.Disk.{size_of, told_of};
 ghost use Rattle.disk_defs.specs.declared.Area.TheVariants.{Journal};
-ghost use Rattle.journal_defs.specs.Checks as table;
-ghost use Rattle.journal_defs.specs.Reading as reading;
+ghost use Rattle.journal_defs.specs.Checks as checks_spec;
+ghost use Rattle.journal_defs.specs.Reading as reading_spec;
 ghost use Rattle.journal_defs.specs.Reading.{path_len_in, line_in, line_end, lines_in};
 ghost use Rattle.journal_format.specs.Header.{front_in};
 ghost use Rattle.journal_format.specs.Parts.{Always, IsWindow, ReadsPart};
@@ -41,8 +41,8 @@ fn is_rooted(path: &[u8]) -> bool
 /// The text of a path.
 #[tactic(auto, using(crate::proofs::Steps::no_text_is_no_path, crate::proofs::Steps::path_of_text))]
 fn as_path(bytes: &[u8]) -> Option<&str>
-    ensures { MatchOption result (table.is_path bytes.now ≡ false)
-        (λ text. (text.now ≡ bytes.now) × (table.is_path bytes.now ≡ true)) }
+    ensures { MatchOption result (checks_spec.is_path bytes.now ≡ false)
+        (λ text. (text.now ≡ bytes.now) × (checks_spec.is_path bytes.now ≡ true)) }
 {
     let Ok(text) = str::from_utf8(bytes) else {
         return None;
@@ -56,14 +56,14 @@ fn as_path(bytes: &[u8]) -> Option<&str>
 
 /// Whether a line of this kind may have this rule.
 fn is_listed_rule(kind: u8, rule: u32) -> bool
-    ensures { result ≡ table.is_listed_rule kind rule }
+    ensures { result ≡ checks_spec.is_listed_rule kind rule }
 {
     if kind == 1 { is_rule(rule) } else { rule == 0 }
 }
 
 /// The kind of a line with this byte.
 fn kind_of(byte: u8) -> ListKind
-    ensures { result ≡ reading.kind_of byte }
+    ensures { result ≡ reading_spec.kind_of byte }
 {
     if byte == 1 {
         ListKind::File
@@ -104,8 +104,8 @@ fn front_checks(bytes: &[u8], at: u64, end: u64) -> [(u64, bool); 3]
     requires bytes { length bytes.now ≡ 7 }
     requires room { at + 7 ≤ end }
     requires end { end < 2 ^ 32 }
-    ensures are { (whole : List ℕ) → part whole at 7 ≡ bytes.now → result ≡ take 3 (table.line_checks whole end at) }
-    ensures inside { table.first_failing result ≡ None → at + (7 + path_len_in bytes.now 0) ≤ end }
+    ensures are { (whole : List ℕ) → part whole at 7 ≡ bytes.now → result ≡ take 3 (checks_spec.line_checks whole end at) }
+    ensures inside { checks_spec.first_failing result ≡ None → at + (7 + path_len_in bytes.now 0) ≤ end }
 {
     let kind = bytes[0];
     let path_len = u64::from(u16_at(Order::Little, bytes, 5));
@@ -124,7 +124,7 @@ fn front_at(bytes: &[u8], at: u64, end: u64) -> Result<Front, JournalFault>
     requires bytes { length bytes.now ≡ 7 }
     requires room { at + 7 ≤ end }
     requires end { end < 2 ^ 32 }
-    ensures says { (whole : List ℕ) → part whole at 7 ≡ bytes.now → FailsAs (take 3 (table.line_checks whole end at)) result }
+    ensures says { (whole : List ℕ) → part whole at 7 ≡ bytes.now → FailsAs (take 3 (checks_spec.line_checks whole end at)) result }
     ensures is { IfOk result (λ front. front ≡ front_in bytes.now 0) }
     ensures ends { IfOk result (λ front. at + (7 + front.path_len) ≤ end) }
     ensures calm { result ≢ Err JournalFault.Device }
@@ -148,7 +148,7 @@ fn read_front<S: Store>(
     requires inside { end ≤ size_of Journal (S.state store.old) }
     requires end { end < 2 ^ 32 }
     ensures read { ReadsPart (told_of Journal (S.state store.old)) at (λ _. at + 7) Always
-        (λ whole. take 3 (table.line_checks whole end at)) (λ front whole. front ≡ front_in whole at) result }
+        (λ whole. take 3 (checks_spec.line_checks whole end at)) (λ front whole. front ≡ front_in whole at) result }
     ensures ends { IfOk result (λ front. at + (7 + front.path_len) ≤ end) }
     ensures window { OnOk result (IsWindow (told_of Journal (S.state store.old)) (size_of Journal (S.state store.old)) window.new) }
     ensures same { S.state store.new ≡ S.state store.old }
@@ -163,7 +163,7 @@ fn read_front<S: Store>(
 
 /// The path in these bytes, which stand at a place, where they are one.
 fn path_of(alloc: Global, bytes: &[u8], at: u64) -> Result<Text, JournalFault>
-    ensures says { FailsAs ((at, table.is_path bytes.now) ∷ []) result }
+    ensures says { FailsAs ((at, checks_spec.is_path bytes.now) ∷ []) result }
     ensures is { IfOk result (λ path. path ≡ bytes.now) }
     ensures calm { result ≢ Err JournalFault.Device }
 {
@@ -185,7 +185,7 @@ fn read_path<S: Store>(
     requires inside { at + len ≤ size_of Journal (S.state store.old) }
     requires short { len ≤ 65535 }
     ensures read { ReadsPart (told_of Journal (S.state store.old)) at (λ _. at + len) Always
-        (λ whole. (at, table.is_path (part whole at len)) ∷ []) (λ path whole. path ≡ part whole at len) result }
+        (λ whole. (at, checks_spec.is_path (part whole at len)) ∷ []) (λ path whole. path ≡ part whole at len) result }
     ensures long { IfOk result (λ path. length path ≡ len) }
     ensures window { OnOk result (IsWindow (told_of Journal (S.state store.old)) (size_of Journal (S.state store.old)) window.new) }
     ensures same { S.state store.new ≡ S.state store.old }
@@ -208,7 +208,7 @@ fn read_line<S: Store>(
     requires inside { end ≤ size_of Journal (S.state store.old) }
     requires end { end < 2 ^ 32 }
     ensures read { ReadsPart (told_of Journal (S.state store.old)) at (λ line. at + listed_len line) Always
-        (λ whole. table.line_checks whole end at) (λ line whole. (line ≡ line_in whole at) × (at + listed_len line ≡ line_end whole at)) result }
+        (λ whole. checks_spec.line_checks whole end at) (λ line whole. (line ≡ line_in whole at) × (at + listed_len line ≡ line_end whole at)) result }
     ensures ends { IfOk result (λ line. at + listed_len line ≤ end) }
     ensures window { OnOk result (IsWindow (told_of Journal (S.state store.old)) (size_of Journal (S.state store.old)) window.new) }
     ensures same { S.state store.new ≡ S.state store.old }
@@ -245,7 +245,7 @@ pub(crate) fn read_lines<S: Store>(
     requires inside { end ≤ size_of Journal (S.state store.old) }
     requires end { end < 2 ^ 32 }
     ensures read { ReadsPart (told_of Journal (S.state store.old)) begin (λ _. end) Always
-        (λ whole. table.lines_checks whole end begin count) (λ lines whole. lines.items ≡ lines_in whole begin count) result }
+        (λ whole. checks_spec.lines_checks whole end begin count) (λ lines whole. lines.items ≡ lines_in whole begin count) result }
     ensures window { OnOk result (IsWindow (told_of Journal (S.state store.old)) (size_of Journal (S.state store.old)) window.new) }
     ensures same { S.state store.new ≡ S.state store.old }
     ensures counted { IsReadCounted result (S.faults store.old) (S.faults store.new) }

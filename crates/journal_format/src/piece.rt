@@ -2,7 +2,7 @@
 ghost use Rattle.std.specs.Prelude.{◌≡◌, ℕ, ◌+◌, ◌*◌, ◌^◌, ◌<◌, ◌≤◌, ◌∷◌, All, max, take, length, replicate, slice_index, sum_by};
 ghost use Rattle.std.specs.List.{flat_map};
 ghost use Rattle.bytes_defs.specs.Bytes.{part};
-ghost use Rattle.journal_defs.specs.Form as form;
+ghost use Rattle.journal_defs.specs.Form as spec;
 ghost use Rattle.journal_defs.specs.Form.{first_journal, little, range_bytes, line_bytes, header_rest};
 ghost use Rattle.journal_format.specs.Cursors.{IsCursor};
 ghost use Rattle.journal_format.specs.Filled.{FillsNext};
@@ -28,7 +28,7 @@ fn listing_len(lines: &[Listed]) -> u64
 /// How many bytes a plan has in a journal behind the header.
 fn body_len(plan: &Plan) -> u64
     requires { IsPlan plan.now }
-    ensures { result ≡ form.body_len plan.now }
+    ensures { result ≡ spec.body_len plan.now }
 {
     let ranges = plan.ranges.items().len() as u64;
     RANGE_LEN * ranges + listing_len(plan.listing.items()) + ((ranges + 63) / 64 + 1)
@@ -37,7 +37,7 @@ fn body_len(plan: &Plan) -> u64
 /// How many bytes the journal of a plan has.
 pub fn journal_len(plan: &Plan) -> u64
     requires { IsPlan plan.now }
-    ensures { result ≡ form.journal_len plan.now }
+    ensures { result ≡ spec.journal_len plan.now }
 {
     HEADER_LEN + body_len(plan)
 }
@@ -110,7 +110,7 @@ fn put_range(piece: &mut [u8], at: u64, place: u64, claim: &Claim)
 
 /// The byte of a kind of line.
 fn kind_byte(kind: ListKind) -> u8
-    ensures { result ≡ form.kind_byte kind }
+    ensures { result ≡ spec.kind_byte kind }
 {
     match kind {
         ListKind::File => 1,
@@ -245,8 +245,8 @@ fn put_front(piece: &mut [u8], at: u64, plan: &Plan)
 /// the cursor for the bytes behind them.
 pub fn journal_piece_from(plan: &Plan, len: u64, at: u64, from: Cursor, buf: &mut [u8]) -> Cursor
     requires plan { IsPlan plan.now }
-    requires len { len ≡ form.journal_len plan.now }
-    requires inside { at + length buf.old ≤ form.journal_len plan.now }
+    requires len { len ≡ spec.journal_len plan.now }
+    requires inside { at + length buf.old ≤ spec.journal_len plan.now }
     requires cursor { IsCursor plan.now at from }
     ensures filled { buf.new ≡ part (first_journal plan.now) at (length buf.old) }
     ensures cursor { IsCursor plan.now (at + length buf.old) result }
@@ -264,7 +264,7 @@ pub fn journal_piece_from(plan: &Plan, len: u64, at: u64, from: Cursor, buf: &mu
 /// Fills a buffer with the bytes of a plan's first journal from a place on.
 pub fn journal_piece(plan: &Plan, at: u64, buf: &mut [u8])
     requires plan { IsPlan plan.now }
-    requires inside { at + length buf.old ≤ form.journal_len plan.now }
+    requires inside { at + length buf.old ≤ spec.journal_len plan.now }
     ensures { buf.new ≡ part (first_journal plan.now) at (length buf.old) }
 {
     let _next = journal_piece_from(plan, journal_len(plan), at, Cursor::first(plan), buf);

@@ -2,7 +2,7 @@
 ghost use Rattle.std.specs.Prelude.{◌≡◌, ◌≢◌, ◌+◌, ◌*◌, ◌^◌, ◌<◌, ◌≤◌, ◌==◌, ◌&&◌, ℕ, None, Err, List, not, nat_le, nat_lt, IfOk, OnOk, length};
 ghost use Rattle.bytes_defs.specs.Bytes.{part};
 ghost use Rattle.bytes_defs.specs.Numbers.{little_at};
-ghost use Rattle.journal_defs.specs.Checks as table;
+ghost use Rattle.journal_defs.specs.Checks as spec;
 ghost use Rattle.journal_defs.specs.Reading.{image_len_in, claim_in, claims_in};
 ghost use Rattle.rx_ranges.specs.declared.plan.TheConstants.{MAX_RANGES};
 ghost use Rattle.disk_defs.specs.Disk.{size_of, told_of};
@@ -30,7 +30,7 @@ fn has_zeros(bytes: &[u8], at: usize) -> bool
 
 /// Whether this is the number of a rule.
 pub(crate) fn is_rule(rule: u32) -> bool
-    ensures { result ≡ table.is_rule rule }
+    ensures { result ≡ spec.is_rule rule }
 {
     1 <= rule && rule <= MAX_RULE
 }
@@ -52,7 +52,7 @@ fn ends_inside(claim: &Claim, image_len: u64) -> bool
 
 /// Whether a range has a rule, and another than the last range where the two touch.
 fn has_own_rule(claim: &Claim, last_end: u64, last_rule: u32) -> bool
-    ensures { result ≡ (table.is_rule claim.now.rule && not (last_end == claim.now.range.at && last_rule == claim.now.rule)) }
+    ensures { result ≡ (spec.is_rule claim.now.rule && not (last_end == claim.now.range.at && last_rule == claim.now.rule)) }
 {
     is_rule(claim.rule) && !(last_end == claim.range.at && last_rule == claim.rule)
 }
@@ -67,8 +67,8 @@ fn range_checks(
 ) -> [(u64, bool); 4]
     requires bytes { length bytes.now ≡ 24 }
     requires place { at + 24 < 2 ^ 64 }
-    ensures are { (whole : List ℕ) → part whole at 24 ≡ bytes.now → image_len ≡ image_len_in whole → result ≡ table.range_checks whole at last_end last_rule }
-    ensures inside { table.first_failing result ≡ None → (claim_in bytes.now 0).range.at + (claim_in bytes.now 0).range.len ≤ image_len }
+    ensures are { (whole : List ℕ) → part whole at 24 ≡ bytes.now → image_len ≡ image_len_in whole → result ≡ spec.range_checks whole at last_end last_rule }
+    ensures inside { spec.first_failing result ≡ None → (claim_in bytes.now 0).range.at + (claim_in bytes.now 0).range.len ≤ image_len }
 {
     let claim = claim_of(bytes);
     [
@@ -89,7 +89,7 @@ fn range_at(
 ) -> Result<Claim, JournalFault>
     requires bytes { length bytes.now ≡ 24 }
     requires place { at + 24 < 2 ^ 64 }
-    ensures says { (whole : List ℕ) → part whole at 24 ≡ bytes.now → image_len ≡ image_len_in whole → FailsAs (table.range_checks whole at last_end last_rule) result }
+    ensures says { (whole : List ℕ) → part whole at 24 ≡ bytes.now → image_len ≡ image_len_in whole → FailsAs (spec.range_checks whole at last_end last_rule) result }
     ensures is { IfOk result (λ claim. claim ≡ claim_in bytes.now 0) }
     ensures ends { IfOk result (λ claim. claim.range.at + claim.range.len ≤ image_len) }
     ensures calm { result ≢ Err JournalFault.Device }
@@ -114,7 +114,7 @@ fn read_range<S: Store>(
     requires inside { at + 24 ≤ size_of Journal (S.state store.old) }
     requires place { at + 24 < 2 ^ 64 }
     ensures read { ReadsPart (told_of Journal (S.state store.old)) at (λ _. at + 24) (λ whole. image_len ≡ image_len_in whole)
-        (λ whole. table.range_checks whole at last_end last_rule) (λ claim whole. claim ≡ claim_in whole at) result }
+        (λ whole. spec.range_checks whole at last_end last_rule) (λ claim whole. claim ≡ claim_in whole at) result }
     ensures ends { IfOk result (λ claim. claim.range.at + claim.range.len ≤ image_len) }
     ensures window { OnOk result (IsWindow (told_of Journal (S.state store.old)) (size_of Journal (S.state store.old)) window.new) }
     ensures same { S.state store.new ≡ S.state store.old }
@@ -137,7 +137,7 @@ pub(crate) fn read_ranges<S: Store>(
     requires inside { 40 + 24 * count ≤ size_of Journal (S.state store.old) }
     requires few { count ≤ MAX_RANGES }
     ensures read { ReadsPart (told_of Journal (S.state store.old)) 40 (λ _. 40 + 24 * count) (λ whole. image_len ≡ image_len_in whole)
-        (λ whole. table.ranges_checks whole 40 0 0 count) (λ claims whole. claims.items ≡ claims_in whole 40 count) result }
+        (λ whole. spec.ranges_checks whole 40 0 0 count) (λ claims whole. claims.items ≡ claims_in whole 40 count) result }
     ensures window { OnOk result (IsWindow (told_of Journal (S.state store.old)) (size_of Journal (S.state store.old)) window.new) }
     ensures same { S.state store.new ≡ S.state store.old }
     ensures counted { IsReadCounted result (S.faults store.old) (S.faults store.new) }

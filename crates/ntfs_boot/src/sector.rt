@@ -1,6 +1,7 @@
 //! A volume by the bytes of its boot sector.
 ghost use Rattle.std.specs.Prelude.{◌≡◌, ◌+◌, ◌*◌, ◌<◌, ◌≤◌, ◌^◌, ◌&&◌, true, false, nat_lt, nat_le, length, MatchOption};
-ghost use Rattle.ntfs_volume_defs.specs.Boot.{is_boot_sector as is_boot_sector_by, is_one_of, size_of_record, sectors_in_cluster, record_size_of};
+ghost use Rattle.ntfs_volume_defs.specs.Boot as spec;
+ghost use Rattle.ntfs_volume_defs.specs.Boot.{is_one_of, size_of_record, sectors_in_cluster, record_size_of};
 ghost use Rattle.ntfs_boot.specs.Sector.{sector_sizes, cluster_counts, record_sizes, placed_boot, sector_boot};
 
 use bytes_defs::Order;
@@ -12,7 +13,7 @@ use ntfs_volume_defs::boot::Boot;
 #[tactic(auto, unfolding(bytes_defs::specs::Bytes::part))]
 fn is_boot_sector(bytes: &[u8]) -> bool
     requires { length bytes.now ≡ 512 }
-    ensures { result ≡ is_boot_sector_by bytes.now }
+    ensures { result ≡ spec.is_boot_sector bytes.now }
 {
     &bytes[3..11] == b"NTFS    ".as_slice() && &bytes[510..512] == b"\x55\xAA".as_slice()
 }

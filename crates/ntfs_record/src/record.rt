@@ -2,7 +2,7 @@
 ghost use Rattle.std.specs.Prelude.{◌≡◌, ◌<◌, length, IfOk, IfErr, OnOk, Ok, Err, IsOk};
 ghost use Rattle.image_defs.specs.Ask.{result_of};
 ghost use Rattle.bytes_defs.specs.Numbers.{little_at};
-ghost use Rattle.ntfs_record_defs.specs.Stored.{stored_place as stored_place_by};
+ghost use Rattle.ntfs_record_defs.specs.Stored as spec;
 ghost use Rattle.ntfs_record_defs.specs.Record.{record_of};
 ghost use Rattle.ntfs_record_defs.specs.Lent.{lent_attributes, AreApart, IsRecordSize, mended};
 
@@ -86,7 +86,7 @@ impl<'a> FileRecord<'a> {
     #[tactic(auto, unfolding(ntfs_record_defs::specs::Stored::stored_place, ntfs_record_defs::specs::Record::header_of))]
     pub fn stored_place(&self, i: usize) -> usize
         requires { i < length self.now }
-        ensures place { result ≡ stored_place_by (little_at 2 self.now 4) i }
+        ensures place { result ≡ spec.stored_place (little_at 2 self.now 4) i }
         ensures inside { result < length self.now }
     {
         let stride = i / 512;

@@ -2,7 +2,8 @@
 ghost use Rattle.std.specs.Prelude.{◌≡◌, ◌+◌, ◌<◌, ◌≤◌, ◌⊎◌, length};
 ghost use Rattle.bytes_defs.specs.Bytes.{part};
 ghost use Rattle.bytes_defs.specs.Numbers.{little_at};
-ghost use Rattle.ntfs_record_defs.specs.Attributes.{is_resident as is_resident_by, is_length as is_length_by, is_layout as is_layout_by, header_size as header_size_by, body_offset as body_offset_by, body_length as body_length_by, name_offset, name_length};
+ghost use Rattle.ntfs_record_defs.specs.Attributes as spec;
+ghost use Rattle.ntfs_record_defs.specs.Attributes.{name_offset, name_length};
 ghost use Rattle.ntfs_record_defs.specs.Lent.{lent_with, lent_at, lent_next};
 ghost use Rattle.ntfs_record.specs.Seen.{form_seen, form_given};
 
@@ -27,13 +28,13 @@ pub(crate) fn part_of(bytes: &[u8], at: usize, len: usize) -> &[u8]
 
 fn is_resident(start: &[u8]) -> bool
     requires { length start.now ≡ 16 }
-    ensures { result ≡ is_resident_by start.now }
+    ensures { result ≡ spec.is_resident start.now }
 {
     start[8] == 0
 }
 
 fn header_size(resident: bool) -> usize
-    ensures { result ≡ header_size_by resident }
+    ensures { result ≡ spec.header_size resident }
 {
     if resident { 24 } else { 64 }
 }
@@ -42,7 +43,7 @@ fn header_size(resident: bool) -> usize
 #[tactic(auto, unfolding(ntfs_record_defs::specs::Attributes::is_length))]
 fn is_length(left: usize, start: &[u8]) -> bool
     requires { length start.now ≡ 16 }
-    ensures { result ≡ is_length_by left start.now }
+    ensures { result ≡ spec.is_length left start.now }
 {
     let len = u32_at(Order::Little, start, 4) as usize;
     len % 8 == 0 && header_size(is_resident(start)) <= len && len <= left
@@ -50,8 +51,8 @@ fn is_length(left: usize, start: &[u8]) -> bool
 
 /// Where the content or the run list stands in an attribute.
 fn body_offset(resident: bool, header: &[u8]) -> usize
-    requires { length header.now ≡ header_size_by resident }
-    ensures value { result ≡ body_offset_by resident header.now }
+    requires { length header.now ≡ spec.header_size resident }
+    ensures value { result ≡ spec.body_offset resident header.now }
     ensures short { result < 65536 }
 {
     if resident {
@@ -63,9 +64,9 @@ fn body_offset(resident: bool, header: &[u8]) -> usize
 
 /// How long it is.
 fn body_length(resident: bool, len: usize, header: &[u8]) -> usize
-    requires header { length header.now ≡ header_size_by resident }
+    requires header { length header.now ≡ spec.header_size resident }
     requires short { len < 4294967296 }
-    ensures value { result ≡ body_length_by resident len header.now }
+    ensures value { result ≡ spec.body_length resident len header.now }
     ensures short { result < 4294967296 }
 {
     if resident {
@@ -79,8 +80,8 @@ fn body_length(resident: bool, len: usize, header: &[u8]) -> usize
 #[tactic(auto, unfolding(ntfs_record_defs::specs::Attributes::is_layout))]
 fn is_layout(resident: bool, start: &[u8], header: &[u8]) -> bool
     requires start { length start.now ≡ 16 }
-    requires header { length header.now ≡ header_size_by resident }
-    ensures { result ≡ is_layout_by resident start.now header.now }
+    requires header { length header.now ≡ spec.header_size resident }
+    ensures { result ≡ spec.is_layout resident start.now header.now }
 {
     let size = header_size(resident);
     let name = usize::from(u16_at(Order::Little, start, 10));
@@ -119,7 +120,7 @@ fn attribute_with<'a>(
     header: &[u8],
 ) -> Result<Attr<'a>, RecordFault>
     requires start { length start.now ≡ 16 }
-    requires header { length header.now ≡ header_size_by (is_resident_by start.now) }
+    requires header { length header.now ≡ spec.header_size (spec.is_resident start.now) }
     requires inside { at + little_at 4 start.now 4 ≤ length bytes.now }
     ensures { result ≡ lent_with bytes.now at start.now header.now }
 {
@@ -143,7 +144,7 @@ fn attribute_with<'a>(
 
 /// Its content, or its run list with the sizes of its header.
 fn form_of<'a>(resident: bool, at: usize, body: &'a [u8], header: &[u8]) -> Form<'a>
-    requires { length header.now ≡ header_size_by resident }
+    requires { length header.now ≡ spec.header_size resident }
     ensures { form_seen result ≡ form_given resident at body.now header.now }
 {
     if resident {

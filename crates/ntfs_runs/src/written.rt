@@ -1,8 +1,9 @@
 //! The runs of a run list, one at a time.
 ghost use Rattle.std.specs.Prelude.{◌≡◌, ◌+◌, ◌^◌, ◌≤◌, ◌<◌, length, ℤ, pos};
-ghost use Rattle.ntfs_defs.specs.WrittenRuns.{run_at as run_at_by, offset_at as offset_at_by};
+ghost use Rattle.ntfs_defs.specs.WrittenRuns as written_runs_spec;
 ghost use Rattle.bytes_defs.specs.Numbers.{little_at};
-ghost use Rattle.ntfs_defs.specs.DecodedRuns.{begin_of, checked_run as checked_run_by};
+ghost use Rattle.ntfs_defs.specs.DecodedRuns as decoded_runs_spec;
+ghost use Rattle.ntfs_defs.specs.DecodedRuns.{begin_of};
 
 use byteorder::{ByteOrder, LittleEndian};
 use ntfs_defs::fault::RunFault;
@@ -29,7 +30,7 @@ fn length_at(bytes: &[u8], at: usize, count: usize) -> u64
 fn offset_at(bytes: &[u8], at: usize, count: usize) -> Option<i64>
     requires few { count ≤ 8 }
     requires inside { at + count ≤ length bytes.now }
-    ensures { result ≡ offset_at_by bytes.now at count }
+    ensures { result ≡ written_runs_spec.offset_at bytes.now at count }
 {
     if count == 0 {
         return None;
@@ -40,7 +41,7 @@ fn offset_at(bytes: &[u8], at: usize, count: usize) -> Option<i64>
 /// The run whose header byte stands at a place; None where the list ends there.
 #[tactic(auto, unfolding(ntfs_defs::specs::WrittenRuns::run_at, ntfs_defs::specs::WrittenRuns::run_behind, ntfs_defs::specs::WrittenRuns::run_with))]
 pub(crate) fn run_at(bytes: &[u8], at: usize) -> Result<Option<WrittenRun>, RunFault>
-    ensures { result ≡ run_at_by bytes.now at }
+    ensures { result ≡ written_runs_spec.run_at bytes.now at }
 {
     let Some(header) = bytes.get(at) else {
         return Err(RunFault::Short { at });
@@ -87,7 +88,7 @@ pub(crate) fn checked_run(
     requires few_clusters { clusters ≤ 2 ^ 63 }
     requires base_inside { base ≤ 2 ^ 63 }
     requires total_fits { total ≤ 2 ^ 48 }
-    ensures { result ≡ checked_run_by clusters base total written.now }
+    ensures { result ≡ decoded_runs_spec.checked_run clusters base total written.now }
 {
     let at = written.at;
     let len = written.len;

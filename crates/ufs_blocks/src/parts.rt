@@ -13,12 +13,15 @@ ghost use Rattle.rx_tree.specs.PartOrder.{ArePartsSorted};
 ghost use Rattle.rx_tree.specs.PartPieces.{ArePlain};
 ghost use Rattle.rx_tree.specs.Within.{ArePartsWithin};
 ghost use Rattle.ufs_blocks.specs.Placed.{AreExtendedBy, ArePartsOf};
-ghost use Rattle.ufs_blocks.specs.Sections.{IsContentAlone, extended_list, has_content as has_content_by, has_extended as has_extended_by, has_parts as has_parts_by};
+ghost use Rattle.ufs_blocks.specs.Sections as sections_spec;
+ghost use Rattle.ufs_blocks.specs.Sections.{IsContentAlone, extended_list};
 ghost use Rattle.ufs_blocks.specs.UnderWay.{Settles};
 ghost use Rattle.ufs_inode_defs.specs.Blocks.{most_runs, runs_of};
-ghost use Rattle.ufs_inode_defs.specs.Inode.{is_short_link as is_short_link_by, sound_inode, type_bits as type_bits_by};
+ghost use Rattle.ufs_inode_defs.specs.Inode as inode_spec;
+ghost use Rattle.ufs_inode_defs.specs.Inode.{sound_inode};
 ghost use Rattle.ufs_inode_defs.specs.Superblock.{wrong_field};
-ghost use Rattle.ufs_volume_defs.specs.Files.{inode_parts as inode_parts_by, section_part, sections_of};
+ghost use Rattle.ufs_volume_defs.specs.Files as files_spec;
+ghost use Rattle.ufs_volume_defs.specs.Files.{section_part, sections_of};
 
 use crate::laid::{Laid, Parted};
 use crate::streams::{content_blocks, extended_blocks};
@@ -32,14 +35,14 @@ use ufs_inode_defs::superblock::Super;
 
 /// The bits of the mode that say what a file is.
 fn type_bits(inode: &Inode) -> u16
-    ensures { result ≡ type_bits_by inode.now }
+    ensures { result ≡ inode_spec.type_bits inode.now }
 {
     inode.mode & 0xF000
 }
 
 /// Whether an inode has parts: devices, pipes and sockets have none.
 fn has_parts(inode: &Inode) -> bool
-    ensures { result ≡ has_parts_by inode.now }
+    ensures { result ≡ sections_spec.has_parts inode.now }
 {
     let bits = type_bits(inode);
     bits == 0x4000 || bits == 0x8000 || bits == 0xA000
@@ -47,7 +50,7 @@ fn has_parts(inode: &Inode) -> bool
 
 /// Whether a link's target stands in the place of its pointers.
 fn is_short_link(sup: &Super, inode: &Inode) -> bool
-    ensures { result ≡ is_short_link_by sup.now inode.now }
+    ensures { result ≡ inode_spec.is_short_link sup.now inode.now }
 {
     let least = if sup.version == 1 { 60 } else { 120 };
     type_bits(inode) == 0xA000 && inode.size < least
@@ -55,14 +58,14 @@ fn is_short_link(sup: &Super, inode: &Inode) -> bool
 
 /// Whether an inode has a content.
 fn has_content(sup: &Super, inode: &Inode) -> bool
-    ensures { result ≡ has_content_by sup.now inode.now }
+    ensures { result ≡ sections_spec.has_content sup.now inode.now }
 {
     has_parts(inode) && !is_short_link(sup, inode)
 }
 
 /// Whether an inode has an extended area.
 fn has_extended(inode: &Inode) -> bool
-    ensures { result ≡ has_extended_by inode.now }
+    ensures { result ≡ sections_spec.has_extended inode.now }
 {
     has_parts(inode) && inode.extsize != 0
 }
@@ -172,7 +175,7 @@ pub fn inode_parts<S: Store>(
     requires inside { sup.now.at + sup.now.len ≤ size_of Image (S.state store.old) }
     requires near { sup.now.at + sup.now.len ≤ LONGEST_IMAGE }
     requires few { runs ≤ most_runs }
-    ensures reads { ReadsAs (told_image (S.state store.old)) (inode_parts_by sup.now runs inode.now) looked.old.items looked.new.items result }
+    ensures reads { ReadsAs (told_image (S.state store.old)) (files_spec.inode_parts sup.now runs inode.now) looked.old.items looked.new.items result }
     ensures placed { IfOk result (λ parted. IfSome (told_image (S.state store.old)) (λ image. ArePartsOf image sup.now (sections_of sup.now inode.now) parted.parts)) }
     ensures few_after { IfOk result (λ parted. parted.runs ≤ most_runs) }
     ensures sorted { IfOk result (λ parted. ArePartsSorted parted.parts) }

@@ -3,8 +3,9 @@ ghost use Rattle.std.specs.Prelude.{◌≡◌, ◌+◌, ◌*◌, ◌^◌, ◌<�
 ghost use Rattle.range_defs.specs.declared.TheConstants.{LONGEST_IMAGE};
 ghost use Rattle.rx_store.specs.Answers.{Answers};
 ghost use Rattle.ufs_blocks.specs.UnderWay.{IsUnderWay, Settles, led_to};
-ghost use Rattle.ufs_inode_defs.specs.Blocks.{behind as behind_by, counted_runs as counted_runs_by, most_runs, runs_of as runs_of_by, with_block as with_block_by, with_hole as with_hole_by, with_visit as with_visit_by};
-ghost use Rattle.ufs_inode_defs.specs.Stream.{allocated_len as allocated_len_by, block_count as block_count_by};
+ghost use Rattle.ufs_inode_defs.specs.Blocks as blocks_spec;
+ghost use Rattle.ufs_inode_defs.specs.Blocks.{most_runs};
+ghost use Rattle.ufs_inode_defs.specs.Stream as stream_spec;
 ghost use Rattle.ufs_inode_defs.specs.Superblock.{wrong_field};
 
 use crate::laid::{Laid, Pointer};
@@ -31,8 +32,8 @@ pub(crate) fn with_hole(
     requires short { size ≤ 2 ^ 62 }
     requires few { blocks ≤ 4398046511104 }
     requires way { IsUnderWay sup.now size laid }
-    requires inside { laid.block < block_count_by sup.now size }
-    ensures value { IfOk result (λ after. after ≡ with_hole_by sup.now size blocks laid) }
+    requires inside { laid.block < stream_spec.block_count sup.now size }
+    ensures value { IfOk result (λ after. after ≡ blocks_spec.with_hole sup.now size blocks laid) }
     ensures lean { IfErr result (λ fault. fault ≡ ReadFault.NoMemory) }
 {
     let unit = block_size(sup);
@@ -51,7 +52,7 @@ pub(crate) fn with_hole(
 /// Keeps what a block has behind its content.
 fn push_behind(slack: &mut Vec<Range>, at: u64, len: u64, allocated: u64) -> Result<(), AllocError>
     requires { at + allocated < 2 ^ 64 }
-    ensures { IfOk result (λ _. slack.new.items ≡ slack.old.items ++ behind_by at len allocated) }
+    ensures { IfOk result (λ _. slack.new.items ≡ slack.old.items ++ blocks_spec.behind at len allocated) }
 {
     if len < allocated {
         slack.push(Range {
@@ -68,10 +69,10 @@ pub(crate) fn with_block(sup: &Super, size: u64, at: u64, mut laid: Laid) -> Res
     requires sound { wrong_field sup.now ≡ None }
     requires near { sup.now.at + sup.now.len ≤ LONGEST_IMAGE }
     requires short { size ≤ 2 ^ 62 }
-    requires stands { at + allocated_len_by sup.now size laid.block ≤ sup.now.at + sup.now.len }
+    requires stands { at + stream_spec.allocated_len sup.now size laid.block ≤ sup.now.at + sup.now.len }
     requires way { IsUnderWay sup.now size laid }
-    requires inside { laid.block < block_count_by sup.now size }
-    ensures value { IfOk result (λ after. after ≡ with_block_by sup.now size at laid) }
+    requires inside { laid.block < stream_spec.block_count sup.now size }
+    ensures value { IfOk result (λ after. after ≡ blocks_spec.with_block sup.now size at laid) }
     ensures lean { IfErr result (λ fault. fault ≡ ReadFault.NoMemory) }
 {
     let len = content_len(sup, size, laid.block);
@@ -95,9 +96,9 @@ pub(crate) fn with_block(sup: &Super, size: u64, at: u64, mut laid: Laid) -> Res
 /// What was found, where its runs are within their limit.
 pub(crate) fn counted_runs(laid: Laid) -> Result<Laid, ReadFault>
     requires { laid.before ≤ most_runs }
-    ensures settles { Settles result (counted_runs_by laid) }
+    ensures settles { Settles result (blocks_spec.counted_runs laid) }
     ensures is { IfOk result (λ after. after ≡ laid) }
-    ensures few { IfOk result (λ after. runs_of_by after ≤ most_runs) }
+    ensures few { IfOk result (λ after. blocks_spec.runs_of after ≤ most_runs) }
     ensures calm { IfErr result (λ fault. fault ≡ ReadFault.Limit Bound.Runs most_runs) }
 {
     let runs = (laid.before as u128) + (laid.pieces.len() as u128) + u128::from(laid.visited);
@@ -110,10 +111,10 @@ pub(crate) fn counted_runs(laid: Laid) -> Result<Laid, ReadFault>
 
 /// A block of pointers that is visited.
 pub(crate) fn with_visit(mut laid: Laid) -> Result<Laid, ReadFault>
-    requires { runs_of_by laid ≤ most_runs }
-    ensures settles { Settles result (counted_runs_by (with_visit_by laid)) }
-    ensures is { IfOk result (λ after. after ≡ with_visit_by laid) }
-    ensures few { IfOk result (λ after. runs_of_by after ≤ most_runs) }
+    requires { blocks_spec.runs_of laid ≤ most_runs }
+    ensures settles { Settles result (blocks_spec.counted_runs (blocks_spec.with_visit laid)) }
+    ensures is { IfOk result (λ after. after ≡ blocks_spec.with_visit laid) }
+    ensures few { IfOk result (λ after. blocks_spec.runs_of after ≤ most_runs) }
     ensures calm { IfErr result (λ fault. fault ≡ ReadFault.Limit Bound.Runs most_runs) }
 {
     laid.visited += 1;

@@ -15,10 +15,13 @@ ghost use Rattle.rx_tree.specs.Within.{AreRangesWithin};
 ghost use Rattle.ufs_blocks.specs.Placed.{DoBlocksLieWithin};
 ghost use Rattle.ufs_blocks.specs.UnderWay.{HasGone, IsUnderWay, Settles};
 ghost use Rattle.ufs_inode_defs.specs.BlockPlace.{AreStreamPieces, slack_of};
-ghost use Rattle.ufs_inode_defs.specs.Blocks.{mapped_blocks as mapped_blocks_by, most_runs, none_laid as none_laid_by, rising_blocks as rising_blocks_by, runs_of, stream_blocks};
+ghost use Rattle.ufs_inode_defs.specs.Blocks as blocks_spec;
+ghost use Rattle.ufs_inode_defs.specs.Blocks.{most_runs, runs_of, stream_blocks};
 ghost use Rattle.ufs_inode_defs.specs.Inode.{sound_inode};
-ghost use Rattle.ufs_inode_defs.specs.Layout.{layout_of, pointer_len as pointer_len_by};
-ghost use Rattle.ufs_inode_defs.specs.Stream.{content_stream, extended_stream, pointers_from, span as span_by};
+ghost use Rattle.ufs_inode_defs.specs.Layout as layout_spec;
+ghost use Rattle.ufs_inode_defs.specs.Layout.{layout_of};
+ghost use Rattle.ufs_inode_defs.specs.Stream as stream_spec;
+ghost use Rattle.ufs_inode_defs.specs.Stream.{content_stream, extended_stream, pointers_from};
 ghost use Rattle.ufs_inode_defs.specs.Superblock.{wrong_field};
 
 use crate::laid::{Laid, Pointer};
@@ -32,7 +35,7 @@ use ufs_super::sizes::pointer_len;
 
 /// Nothing yet, where so many runs were counted before.
 fn none_laid(alloc: Global, before: u64) -> Laid
-    ensures { result ≡ none_laid_by before }
+    ensures { result ≡ blocks_spec.none_laid before }
 {
     Laid {
         block: 0,
@@ -74,7 +77,7 @@ fn direct_blocks(
     requires few { length values.now ≤ 12 }
     requires narrow { len ≤ 8 }
     requires stands { at < 2 ^ 63 }
-    ensures settles { Settles result (through (mapped_blocks_by 0 sup.now size) laid (pointers_from at len values.now)) }
+    ensures settles { Settles result (through (blocks_spec.mapped_blocks 0 sup.now size) laid (pointers_from at len values.now)) }
     ensures way_after { IfOk result (IsUnderWay sup.now size) }
     ensures gone { IfOk result (HasGone sup.now size (length values.now) laid) }
     ensures calm { result ≢ Err ReadFault.Device }
@@ -104,9 +107,9 @@ fn rising_blocks<S: Store>(
     requires way { IsUnderWay sup.now size laid }
     requires three { length values.now ≡ 3 }
     requires stands { at < 2 ^ 63 }
-    ensures reads { ReadsAs (told_image (S.state store.old)) (rising_blocks_by 1 sup.now size laid (pointers_from at (pointer_len_by sup.now.version) values.now)) looked.old.items looked.new.items result }
+    ensures reads { ReadsAs (told_image (S.state store.old)) (blocks_spec.rising_blocks 1 sup.now size laid (pointers_from at (layout_spec.pointer_len sup.now.version) values.now)) looked.old.items looked.new.items result }
     ensures way_after { IfOk result (IsUnderWay sup.now size) }
-    ensures gone { IfOk result (HasGone sup.now size (span_by sup.now 1 + span_by sup.now 2 + span_by sup.now 3) laid) }
+    ensures gone { IfOk result (HasGone sup.now size (stream_spec.span sup.now 1 + stream_spec.span sup.now 2 + stream_spec.span sup.now 3) laid) }
     ensures kept_within { OnOk result (KeptWithin (sup.now.at + sup.now.len) looked.old.items looked.new.items) }
     ensures same { S.state store.new ≡ S.state store.old }
     ensures counted { IsReadCounted Image result (S.faults store.old) (S.faults store.new) }

@@ -8,9 +8,10 @@ ghost use Rattle.image_reads.specs.Steps.{KeptWithin, ReadsAs};
 ghost use Rattle.range_defs.specs.declared.TheConstants.{LONGEST_IMAGE};
 ghost use Rattle.rx_store.specs.ReadFaults.{IsReadCounted};
 ghost use Rattle.ufs_blocks.specs.UnderWay.{HasGone, IsUnderWay, Settles};
-ghost use Rattle.ufs_inode_defs.specs.Blocks.{mapped_blocks as mapped_blocks_by};
-ghost use Rattle.ufs_inode_defs.specs.Layout.{layout_of, pointer_len as pointer_len_by};
-ghost use Rattle.ufs_inode_defs.specs.Stream.{span as span_by};
+ghost use Rattle.ufs_inode_defs.specs.Blocks as blocks_spec;
+ghost use Rattle.ufs_inode_defs.specs.Layout as layout_spec;
+ghost use Rattle.ufs_inode_defs.specs.Layout.{layout_of};
+ghost use Rattle.ufs_inode_defs.specs.Stream as stream_spec;
 ghost use Rattle.ufs_inode_defs.specs.Superblock.{wrong_field};
 
 use crate::laid::{Laid, Pointer};
@@ -34,7 +35,7 @@ pub(crate) fn direct_block(
     requires near { sup.now.at + sup.now.len ≤ LONGEST_IMAGE }
     requires short { size ≤ 2 ^ 62 }
     requires way { IsUnderWay sup.now size laid }
-    ensures settles { Settles result (mapped_blocks_by 0 sup.now size laid pointer.now) }
+    ensures settles { Settles result (blocks_spec.mapped_blocks 0 sup.now size laid pointer.now) }
     ensures way_after { IfOk result (IsUnderWay sup.now size) }
     ensures gone { IfOk result (HasGone sup.now size 1 laid) }
     ensures calm { result ≢ Err ReadFault.Device }
@@ -50,10 +51,10 @@ pub(crate) fn direct_block(
 
 /// The pointer of a number in the bytes of a block of pointers at a place.
 fn pointer_of(sup: &Super, place: u64, bytes: &[u8], number: u64) -> Pointer
-    requires inside { number * pointer_len_by sup.now.version + pointer_len_by sup.now.version ≤ length bytes.now }
+    requires inside { number * layout_spec.pointer_len sup.now.version + layout_spec.pointer_len sup.now.version ≤ length bytes.now }
     requires near { place + length bytes.now ≤ LONGEST_IMAGE }
-    ensures at { result.at ≡ place + number * pointer_len_by sup.now.version }
-    ensures value { result.value ≡ signed_at sup.now.order (layout_of sup.now.version).pointer bytes.now (number * pointer_len_by sup.now.version) }
+    ensures at { result.at ≡ place + number * layout_spec.pointer_len sup.now.version }
+    ensures value { result.value ≡ signed_at sup.now.order (layout_of sup.now.version).pointer bytes.now (number * layout_spec.pointer_len sup.now.version) }
 {
     let skip = number * pointer_len(sup);
     let value = if sup.version == 1 {
@@ -84,9 +85,9 @@ pub(crate) fn mapped_blocks<S: Store>(
     requires short { size ≤ 2 ^ 62 }
     requires few { level ≤ 3 }
     requires way { IsUnderWay sup.now size laid }
-    ensures reads { ReadsAs (told_image (S.state store.old)) (mapped_blocks_by level sup.now size laid pointer.now) looked.old.items looked.new.items result }
+    ensures reads { ReadsAs (told_image (S.state store.old)) (blocks_spec.mapped_blocks level sup.now size laid pointer.now) looked.old.items looked.new.items result }
     ensures way_after { IfOk result (IsUnderWay sup.now size) }
-    ensures gone { IfOk result (HasGone sup.now size (span_by sup.now level) laid) }
+    ensures gone { IfOk result (HasGone sup.now size (stream_spec.span sup.now level) laid) }
     ensures kept_within { OnOk result (KeptWithin (sup.now.at + sup.now.len) looked.old.items looked.new.items) }
     ensures same { S.state store.new ≡ S.state store.old }
     ensures counted { IsReadCounted Image result (S.faults store.old) (S.faults store.new) }

@@ -1,6 +1,7 @@
 //! One entry of a directory.
 ghost use Rattle.std.specs.Prelude.{◌≡◌, ◌+◌, ◌%◌, ◌<◌, ◌≤◌, true, length};
-ghost use Rattle.ufs_volume_defs.specs.Directory.{is_entry as is_entry_by, entry_of, leads_on as leads_on_by};
+ghost use Rattle.ufs_volume_defs.specs.Directory as spec;
+ghost use Rattle.ufs_volume_defs.specs.Directory.{entry_of};
 ghost use Rattle.bytes_defs.specs.Bytes.{part};
 
 use bytes_defs::Order;
@@ -17,6 +18,7 @@ pub struct Entry<'a> {
 }
 
 impl<'a> Model for Entry<'a> {
+    ghost use Rattle.ufs_volume_defs.specs.Directory as spec;
     ghost use Rattle.ufs_volume_defs.specs.Directory.{Entry};
 
     ghost Value = { Entry };
@@ -39,7 +41,7 @@ fn part_of(bytes: &[u8], at: usize, len: usize) -> &[u8]
 pub(crate) fn is_entry(order: Order, bytes: &[u8], at: usize) -> bool
     requires whole { length bytes.now % 512 ≡ 0 }
     requires inside { at < length bytes.now }
-    ensures { result ≡ is_entry_by order bytes.now at }
+    ensures { result ≡ spec.is_entry order bytes.now at }
 {
     let left = 512 - at % 512;
     if left < 8 {
@@ -56,7 +58,7 @@ pub(crate) fn is_entry(order: Order, bytes: &[u8], at: usize) -> bool
 pub(crate) fn entry_at(order: Order, bytes: &[u8], at: usize) -> Entry<'_>
     requires whole { length bytes.now % 512 ≡ 0 }
     requires inside { at < length bytes.now }
-    requires entry { is_entry_by order bytes.now at ≡ true }
+    requires entry { spec.is_entry order bytes.now at ≡ true }
     ensures value { result ≡ entry_of order bytes.now at }
     ensures some { 8 ≤ result.len }
     ensures ends { at + result.len ≤ length bytes.now }
@@ -72,7 +74,7 @@ pub(crate) fn entry_at(order: Order, bytes: &[u8], at: usize) -> Entry<'_>
 
 /// Whether an entry leads to a file: it is used, and names neither the directory itself nor its parent.
 pub(crate) fn leads_on(entry: &Entry<'_>) -> bool
-    ensures { result ≡ leads_on_by entry.now }
+    ensures { result ≡ spec.leads_on entry.now }
 {
     1 < entry.inode && entry.name != b".".as_slice() && entry.name != b"..".as_slice()
 }

@@ -3,7 +3,8 @@ ghost use Rattle.std.specs.Prelude.{◌≡◌, All};
 ghost use Rattle.order_defs.specs.Sorted.{sorted_names};
 ghost use Rattle.rx_ranges.specs.Path.{IsPath};
 ghost use Rattle.rx_tree.specs.PartOrder.{ArePartsSorted};
-ghost use Rattle.ufs_volume_defs.specs.Files.{kind_of as kind_by, times_of as times_by, file_of};
+ghost use Rattle.ufs_volume_defs.specs.Files as spec;
+ghost use Rattle.ufs_volume_defs.specs.Files.{file_of};
 
 use crate::group::Group;
 use rx_ranges::Text;
@@ -14,7 +15,7 @@ use ufs_inode_defs::superblock::Super;
 
 /// What a file is, by the bits IFMT of its mode.
 fn kind_of(inode: &Inode) -> Kind
-    ensures { result ≡ kind_by inode.now }
+    ensures { result ≡ spec.kind_of inode.now }
 {
     match inode.mode & 0xF000 {
         0x4000 => Kind::Dir,
@@ -26,7 +27,7 @@ fn kind_of(inode: &Inode) -> Kind
 
 /// The times of an inode. Only UFS2 says when it was made.
 fn times_of(sup: &Super, inode: &Inode) -> Times
-    ensures { result ≡ times_by sup.now inode.now }
+    ensures { result ≡ spec.times_of sup.now inode.now }
 {
     let created = if sup.version == 2 {
         Some(Moment::from_unix(inode.birth))

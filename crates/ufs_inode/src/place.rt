@@ -1,7 +1,8 @@
 //! Where inodes stand.
 ghost use Rattle.std.specs.Prelude.{◌≡◌, ◌+◌, ◌-◌, ◌*◌, ◌%◌, ◌^◌, ◌<◌, bit_and, None};
 ghost use Rattle.ufs_inode_defs.specs.Layout.{layout_of};
-ghost use Rattle.ufs_inode_defs.specs.Superblock.{wrong_field, group_start as group_start_by, inode_place as inode_place_by, has_inode as has_inode_by};
+ghost use Rattle.ufs_inode_defs.specs.Superblock as spec;
+ghost use Rattle.ufs_inode_defs.specs.Superblock.{wrong_field};
 
 use ufs_inode_defs::superblock::Super;
 use ufs_super::{fragment_size, inode_len, non_negative};
@@ -31,7 +32,7 @@ fn moving_bits(group: u32, mask: u32) -> u32
 
 /// The fragment at which a group begins: the macro `cgstart`. The groups of UFS1 are moved round.
 fn group_start(sup: &Super, group: u32) -> u128
-    ensures start { result ≡ group_start_by sup.now group }
+    ensures start { result ≡ spec.group_start sup.now group }
     ensures bound { result < 2 ^ 65 }
 {
     let start = product(non_negative(sup.fpg), group);
@@ -54,7 +55,7 @@ pub(crate) fn bytes_in_front(sup: &Super, number: u32) -> u64
 #[tactic(auto, unfolding(ufs_inode_defs::specs::Superblock::inode_place))]
 pub(crate) fn inode_place(sup: &Super, number: u32) -> u128
     requires sound { wrong_field sup.now ≡ None }
-    ensures place { result ≡ inode_place_by sup.now number }
+    ensures place { result ≡ spec.inode_place sup.now number }
     ensures bound { result < 2 ^ 100 }
 {
     let group = group_start(sup, number / sup.ipg);
@@ -69,7 +70,7 @@ pub(crate) fn inode_place(sup: &Super, number: u32) -> u128
 #[tactic(auto, unfolding(ufs_inode_defs::specs::Superblock::has_inode))]
 pub(crate) fn has_inode(sup: &Super, number: u32) -> bool
     requires sound { wrong_field sup.now ≡ None }
-    ensures { result ≡ has_inode_by sup.now number }
+    ensures { result ≡ spec.has_inode sup.now number }
 {
     let ends = inode_place(sup, number) + u128::from(inode_len(sup.version));
     u64::from(number) < u64::from(sup.ncg) * u64::from(sup.ipg)

@@ -10,7 +10,8 @@ ghost use Rattle.rx_store.specs.Answers.{Answers};
 ghost use Rattle.rx_store.specs.ReadFaults.{IsReadCounted};
 ghost use Rattle.ufs_inode_defs.specs.Inode.{inode_of, sound_inode, inode_named};
 ghost use Rattle.ufs_inode_defs.specs.Layout.{layout_of};
-ghost use Rattle.ufs_inode_defs.specs.Superblock.{wrong_field, inode_place as inode_place_by, has_inode as has_inode_by};
+ghost use Rattle.ufs_inode_defs.specs.Superblock as spec;
+ghost use Rattle.ufs_inode_defs.specs.Superblock.{wrong_field};
 ghost use Rattle.ufs_inode.specs.Block.{HasRange, IsBlockOf};
 
 use crate::block::InodeBlock;
@@ -43,9 +44,9 @@ fn stored_inode<S: Store>(store: &mut S, sup: &Super, at: u64) -> Result<Inode, 
 fn known_place(sup: &Super, number: u32) -> Option<u64>
     requires sound { wrong_field sup.now ≡ None }
     requires fits { sup.now.at + sup.now.len < 2 ^ 64 }
-    ensures none { IsNone result → has_inode_by sup.now number ≡ false }
-    ensures has { IsSome result → has_inode_by sup.now number ≡ true }
-    ensures place { IfSome result (λ at. at ≡ inode_place_by sup.now number) }
+    ensures none { IsNone result → spec.has_inode sup.now number ≡ false }
+    ensures has { IsSome result → spec.has_inode sup.now number ≡ true }
+    ensures place { IfSome result (λ at. at ≡ spec.inode_place sup.now number) }
     ensures ends { IfSome result (λ at. at + (layout_of sup.now.version).inode_len ≤ sup.now.at + sup.now.len) }
     ensures room { IfSome result (λ at. at + 128 ≤ 18446744073709551615) }
 {
@@ -66,8 +67,8 @@ pub fn read_inode<S: Store>(
     requires sound { wrong_field sup.now ≡ None }
     requires inside { sup.now.at + sup.now.len ≤ size_of Image (S.state store.old) }
     ensures told { IfSome (told_image (S.state store.old)) (λ image. Answers result (result_of image (inode_named sup.now number entry))) }
-    ensures place { IfOk result (λ inode. inode.at ≡ inode_place_by sup.now number) }
-    ensures within { OnOk result (has_inode_by sup.now number ≡ true) }
+    ensures place { IfOk result (λ inode. inode.at ≡ spec.inode_place sup.now number) }
+    ensures within { OnOk result (spec.has_inode sup.now number ≡ true) }
     ensures ends { IfOk result (λ inode. inode.at + (layout_of sup.now.version).inode_len ≤ sup.now.at + sup.now.len) }
     ensures tested { IfOk result (λ inode. sound_inode sup.now inode ≡ Done tt) }
     ensures lean { result ≢ Err ReadFault.NoMemory }
@@ -92,8 +93,8 @@ fn hold_inode<S: Store>(
 ) -> Result<(), ReadFault>
     requires sound { wrong_field sup.now ≡ None }
     requires inside { sup.now.at + sup.now.len ≤ size_of Image (S.state store.old) }
-    requires has { has_inode_by sup.now number ≡ true }
-    requires stands { at ≡ inode_place_by sup.now number }
+    requires has { spec.has_inode sup.now number ≡ true }
+    requires stands { at ≡ spec.inode_place sup.now number }
     requires block { IsBlockOf (told_image (S.state store.old)) block.old }
     ensures calm { IfErr result IsNoRefusal }
     ensures holds { OnOk result (HasRange block.new at (layout_of sup.now.version).inode_len) }
@@ -134,8 +135,8 @@ fn inode_through<S: Store>(
     requires inside { sup.now.at + sup.now.len ≤ size_of Image (S.state store.old) }
     requires block { IsBlockOf (told_image (S.state store.old)) block.old }
     ensures told { IfSome (told_image (S.state store.old)) (λ image. Answers result (result_of image (inode_named sup.now number entry))) }
-    ensures place { IfOk result (λ inode. inode.at ≡ inode_place_by sup.now number) }
-    ensures within { OnOk result (has_inode_by sup.now number ≡ true) }
+    ensures place { IfOk result (λ inode. inode.at ≡ spec.inode_place sup.now number) }
+    ensures within { OnOk result (spec.has_inode sup.now number ≡ true) }
     ensures ends { IfOk result (λ inode. inode.at + (layout_of sup.now.version).inode_len ≤ sup.now.at + sup.now.len) }
     ensures tested { IfOk result (λ inode. sound_inode sup.now inode ≡ Done tt) }
     ensures block { IsBlockOf (told_image (S.state store.new)) block.new }
@@ -162,8 +163,8 @@ pub fn look_at_inode<S: Store>(
     requires inside { sup.now.at + sup.now.len ≤ size_of Image (S.state store.old) }
     requires block { IsBlockOf (told_image (S.state store.old)) block.old }
     ensures reads { ReadsAs (told_image (S.state store.old)) (inode_named sup.now number entry) looked.old.items looked.new.items result }
-    ensures place { IfOk result (λ inode. inode.at ≡ inode_place_by sup.now number) }
-    ensures within { OnOk result (has_inode_by sup.now number ≡ true) }
+    ensures place { IfOk result (λ inode. inode.at ≡ spec.inode_place sup.now number) }
+    ensures within { OnOk result (spec.has_inode sup.now number ≡ true) }
     ensures ends { IfOk result (λ inode. inode.at + (layout_of sup.now.version).inode_len ≤ sup.now.at + sup.now.len) }
     ensures tested { IfOk result (λ inode. sound_inode sup.now inode ≡ Done tt) }
     ensures kept { IfOk result (λ inode. looked.new.items ≡ looked.old.items ++ record { at = inode.at; len = (layout_of sup.now.version).inode_len } ∷ []) }

@@ -2,7 +2,8 @@
 ghost use Rattle.std.specs.Prelude.{◌≡◌, ◌≢◌, ◌+◌, ◌*◌, ◌≤◌, Err, IfOk, List, ℕ};
 ghost use Rattle.image_defs.specs.Ask.{Done, result_of};
 ghost use Rattle.rx_store.specs.Answers.{Answers};
-ghost use Rattle.ufs_inode_defs.specs.Inode.{is_snapshot as is_snapshot_by, reach as reach_by, is_too_long as is_too_long_by, is_ext_too_long as is_ext_too_long_by, size_place as size_place_by, flags_place as flags_place_by, sound_inode, tested_inode};
+ghost use Rattle.ufs_inode_defs.specs.Inode as spec;
+ghost use Rattle.ufs_inode_defs.specs.Inode.{sound_inode, tested_inode};
 
 use rx_store::{ReadFault, Sort, What};
 use ufs_inode_defs::inode::Inode;
@@ -11,7 +12,7 @@ use ufs_super::block_size;
 
 /// Whether an inode is a snapshot: the flag `SF_SNAPSHOT` of sys/stat.h.
 fn is_snapshot(inode: &Inode) -> bool
-    ensures { result ≡ is_snapshot_by inode.now }
+    ensures { result ≡ spec.is_snapshot inode.now }
 {
     inode.flags & 0x0020_0000 != 0
 }
@@ -26,21 +27,21 @@ fn reach_of(block: u32, pointers: u32) -> u128
 
 /// The bytes that the pointers of an inode reach.
 fn reach(sup: &Super) -> u128
-    ensures { result ≡ reach_by sup.now }
+    ensures { result ≡ spec.reach sup.now }
 {
     reach_of(block_size(sup), sup.nindir)
 }
 
 /// Whether an inode's content is longer than 2^62 bytes or than its pointers reach.
 fn is_too_long(sup: &Super, inode: &Inode) -> bool
-    ensures { result ≡ is_too_long_by sup.now inode.now }
+    ensures { result ≡ spec.is_too_long sup.now inode.now }
 {
     inode.size > 1 << 62 || u128::from(inode.size) > reach(sup)
 }
 
 /// Whether an inode's extended area is longer than two blocks.
 fn is_ext_too_long(sup: &Super, inode: &Inode) -> bool
-    ensures { result ≡ is_ext_too_long_by sup.now inode.now }
+    ensures { result ≡ spec.is_ext_too_long sup.now inode.now }
 {
     u64::from(inode.extsize) > 2 * u64::from(block_size(sup))
 }
@@ -48,7 +49,7 @@ fn is_ext_too_long(sup: &Super, inode: &Inode) -> bool
 /// The place of an inode's size in the image.
 fn size_place(sup: &Super, inode: &Inode) -> u64
     requires { inode.now.at + 128 ≤ 18446744073709551615 }
-    ensures { result ≡ size_place_by sup.now inode.now }
+    ensures { result ≡ spec.size_place sup.now inode.now }
 {
     inode.at + if sup.version == 1 { 8 } else { 16 }
 }
@@ -56,7 +57,7 @@ fn size_place(sup: &Super, inode: &Inode) -> u64
 /// The place of an inode's flags in the image.
 fn flags_place(sup: &Super, inode: &Inode) -> u64
     requires { inode.now.at + 128 ≤ 18446744073709551615 }
-    ensures { result ≡ flags_place_by sup.now inode.now }
+    ensures { result ≡ spec.flags_place sup.now inode.now }
 {
     inode.at + if sup.version == 1 { 100 } else { 88 }
 }

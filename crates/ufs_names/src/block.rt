@@ -8,9 +8,10 @@ ghost use Rattle.range_defs.specs.declared.TheConstants.{LONGEST_IMAGE};
 ghost use Rattle.rx_ranges.specs.Path.{IsPath};
 ghost use Rattle.rx_store.specs.ReadFaults.{IsReadCounted};
 ghost use Rattle.ufs_inode.specs.Block.{IsBlockOf};
-ghost use Rattle.ufs_inode_defs.specs.Stream.{content_len as content_len_by};
-ghost use Rattle.ufs_inode_defs.specs.Superblock.{block_size as block_size_by, wrong_field};
-ghost use Rattle.ufs_volume_defs.specs.Names.{block_names as block_names_by, entry_name as entry_name_by};
+ghost use Rattle.ufs_inode_defs.specs.Stream as stream_spec;
+ghost use Rattle.ufs_inode_defs.specs.Superblock as superblock_spec;
+ghost use Rattle.ufs_inode_defs.specs.Superblock.{wrong_field};
+ghost use Rattle.ufs_volume_defs.specs.Names as names_spec;
 ghost use Rattle.ufs_names.specs.Walked.{IsWalked, KeptWithin, LiesIn};
 
 use crate::entry::{Block, Place, entry_name};
@@ -38,10 +39,10 @@ fn entries_names<S: Store>(
     requires inside { sup.now.at + sup.now.len ≤ size_of Image (S.state store.old) }
     requires path { IsPath place.now.directory.now.path }
     requires walked { IsWalked sup.now walk }
-    requires offsets { All (λ entry. place.now.block.now.index * block_size_by sup.now + entry.at < 2 ^ 64) entries.now }
+    requires offsets { All (λ entry. place.now.block.now.index * superblock_spec.block_size sup.now + entry.at < 2 ^ 64) entries.now }
     requires places { All (λ entry. place.now.block.now.at + entry.at < 2 ^ 64) entries.now }
     requires inodes { IsBlockOf (told_image (S.state store.old)) seen.old.inodes }
-    ensures reads { ReadsAs (told_image (S.state store.old)) (through (entry_name_by sup.now place.now.directory.now place.now.block.now) walk entries.now) seen.old.looked.items seen.new.looked.items result }
+    ensures reads { ReadsAs (told_image (S.state store.old)) (through (names_spec.entry_name sup.now place.now.directory.now place.now.block.now) walk entries.now) seen.old.looked.items seen.new.looked.items result }
     ensures walked { IfOk result (IsWalked sup.now) }
     ensures kept { OnOk result (KeptWithin (sup.now.at + sup.now.len) seen.old.looked.items seen.new.looked.items) }
     ensures inodes { OnOk result (IsBlockOf (told_image (S.state store.new)) seen.new.inodes) }
@@ -73,7 +74,7 @@ pub(crate) fn block_names<S: Store>(
     requires lies { LiesIn sup.now directory.now.inode.size block.now }
     requires walked { IsWalked sup.now walk }
     requires inodes { IsBlockOf (told_image (S.state store.old)) seen.old.inodes }
-    ensures reads { ReadsAs (told_image (S.state store.old)) (block_names_by sup.now directory.now walk block.now) seen.old.looked.items seen.new.looked.items result }
+    ensures reads { ReadsAs (told_image (S.state store.old)) (names_spec.block_names sup.now directory.now walk block.now) seen.old.looked.items seen.new.looked.items result }
     ensures walked { IfOk result (IsWalked sup.now) }
     ensures kept { OnOk result (KeptWithin (sup.now.at + sup.now.len) seen.old.looked.items seen.new.looked.items) }
     ensures inodes { OnOk result (IsBlockOf (told_image (S.state store.new)) seen.new.inodes) }

@@ -6,9 +6,10 @@ ghost use Rattle.image_reads.specs.Steps.{ReadsAs};
 ghost use Rattle.rx_ranges.specs.Path.{IsPath};
 ghost use Rattle.rx_store.specs.ReadFaults.{IsReadCounted};
 ghost use Rattle.ufs_inode.specs.Block.{IsBlockOf};
-ghost use Rattle.ufs_inode_defs.specs.Superblock.{block_size as block_size_by, wrong_field};
+ghost use Rattle.ufs_inode_defs.specs.Superblock as superblock_spec;
+ghost use Rattle.ufs_inode_defs.specs.Superblock.{wrong_field};
 ghost use Rattle.rx_store.specs.Answers.{Answers};
-ghost use Rattle.ufs_volume_defs.specs.Names.{entry_name as entry_name_by, found_name as found_name_by, name_by as name_by_by};
+ghost use Rattle.ufs_volume_defs.specs.Names as names_spec;
 ghost use Rattle.ufs_names.specs.Walked.{IsInodeOf, IsNamed, IsWalked, KeptWithin, Settles, limited_name};
 
 use crate::name::Name;
@@ -33,6 +34,7 @@ pub(crate) struct Block {
 }
 
 impl Model for Block {
+    ghost use Rattle.ufs_volume_defs.specs.Names as names_spec;
     ghost use Rattle.ufs_volume_defs.specs.Names.{Block};
 
     ghost Value = { Block };
@@ -58,8 +60,8 @@ fn name_by(
     requires sound { wrong_field sup.now ≡ None }
     requires path { IsPath place.now.directory.now.path }
     requires of { IsInodeOf sup.now entry.now.inode inode }
-    requires offset { place.now.block.now.index * block_size_by sup.now + entry.now.at < 2 ^ 64 }
-    ensures limited { Answers result (limited_name (name_by_by sup.now place.now.directory.now place.now.block.now entry.now inode)) }
+    requires offset { place.now.block.now.index * superblock_spec.block_size sup.now + entry.now.at < 2 ^ 64 }
+    ensures limited { Answers result (limited_name (names_spec.name_by sup.now place.now.directory.now place.now.block.now entry.now inode)) }
     ensures named { IfOk result (IsNamed sup.now) }
     ensures calm { result ≢ Err ReadFault.Device }
 {
@@ -88,9 +90,9 @@ fn found_name(
     requires path { IsPath place.now.directory.now.path }
     requires of { IsInodeOf sup.now entry.now.inode inode }
     requires walked { IsWalked sup.now walk }
-    requires offset { place.now.block.now.index * block_size_by sup.now + entry.now.at < 2 ^ 64 }
+    requires offset { place.now.block.now.index * superblock_spec.block_size sup.now + entry.now.at < 2 ^ 64 }
     requires place { place.now.block.now.at + entry.now.at < 2 ^ 64 }
-    ensures settles { Settles result (found_name_by sup.now place.now.directory.now place.now.block.now walk entry.now inode) }
+    ensures settles { Settles result (names_spec.found_name sup.now place.now.directory.now place.now.block.now walk entry.now inode) }
     ensures walked { IfOk result (IsWalked sup.now) }
     ensures calm { result ≢ Err ReadFault.Device }
 {
@@ -116,10 +118,10 @@ pub(crate) fn entry_name<S: Store>(
     requires inside { sup.now.at + sup.now.len ≤ size_of Image (S.state store.old) }
     requires path { IsPath place.now.directory.now.path }
     requires walked { IsWalked sup.now walk }
-    requires offset { place.now.block.now.index * block_size_by sup.now + entry.now.at < 2 ^ 64 }
+    requires offset { place.now.block.now.index * superblock_spec.block_size sup.now + entry.now.at < 2 ^ 64 }
     requires place { place.now.block.now.at + entry.now.at < 2 ^ 64 }
     requires inodes { IsBlockOf (told_image (S.state store.old)) seen.old.inodes }
-    ensures reads { ReadsAs (told_image (S.state store.old)) (entry_name_by sup.now place.now.directory.now place.now.block.now walk entry.now) seen.old.looked.items seen.new.looked.items result }
+    ensures reads { ReadsAs (told_image (S.state store.old)) (names_spec.entry_name sup.now place.now.directory.now place.now.block.now walk entry.now) seen.old.looked.items seen.new.looked.items result }
     ensures walked { IfOk result (IsWalked sup.now) }
     ensures kept { OnOk result (KeptWithin (sup.now.at + sup.now.len) seen.old.looked.items seen.new.looked.items) }
     ensures inodes { OnOk result (IsBlockOf (told_image (S.state store.new)) seen.new.inodes) }

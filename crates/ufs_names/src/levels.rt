@@ -8,7 +8,8 @@ ghost use Rattle.range_defs.specs.declared.TheConstants.{LONGEST_IMAGE};
 ghost use Rattle.rx_store.specs.ReadFaults.{IsReadCounted};
 ghost use Rattle.ufs_inode.specs.Block.{IsBlockOf};
 ghost use Rattle.ufs_inode_defs.specs.Superblock.{wrong_field};
-ghost use Rattle.ufs_volume_defs.specs.Names.{deepest, directories_behind as directories_behind_by, directory_names as directory_names_by, names_below as names_below_by};
+ghost use Rattle.ufs_volume_defs.specs.Names as spec;
+ghost use Rattle.ufs_volume_defs.specs.Names.{deepest};
 ghost use Rattle.ufs_names.specs.Walked.{IsNamed, IsWalked, KeptWithin};
 
 use crate::directory::directory_names;
@@ -30,7 +31,7 @@ pub(crate) fn directories_behind(
     count: usize,
     names: &[Name],
 ) -> Result<Items<Name>, AllocError>
-    ensures { IfOk result (λ found. found ≡ directories_behind_by count names.now) }
+    ensures { IfOk result (λ found. found ≡ spec.directories_behind count names.now) }
 {
     let mut found = Vec::new(alloc);
     let first = count.min(names.len());
@@ -57,7 +58,7 @@ fn level_names<S: Store>(
     requires named { All (IsNamed sup.now) directories.now }
     requires walked { IsWalked sup.now walk }
     requires inodes { IsBlockOf (told_image (S.state store.old)) seen.old.inodes }
-    ensures reads { ReadsAs (told_image (S.state store.old)) (through (directory_names_by sup.now) walk directories.now) seen.old.looked.items seen.new.looked.items result }
+    ensures reads { ReadsAs (told_image (S.state store.old)) (through (spec.directory_names sup.now) walk directories.now) seen.old.looked.items seen.new.looked.items result }
     ensures walked { IfOk result (IsWalked sup.now) }
     ensures kept { OnOk result (KeptWithin (sup.now.at + sup.now.len) seen.old.looked.items seen.new.looked.items) }
     ensures inodes { OnOk result (IsBlockOf (told_image (S.state store.new)) seen.new.inodes) }
@@ -85,7 +86,7 @@ pub(crate) fn names_below<S: Store>(
     requires named { All (IsNamed sup.now) directories }
     requires walked { IsWalked sup.now walk }
     requires inodes { IsBlockOf (told_image (S.state store.old)) seen.old.inodes }
-    ensures reads { ReadsAs (told_image (S.state store.old)) (names_below_by (suc deepest) sup.now walk directories) seen.old.looked.items seen.new.looked.items result }
+    ensures reads { ReadsAs (told_image (S.state store.old)) (spec.names_below (suc deepest) sup.now walk directories) seen.old.looked.items seen.new.looked.items result }
     ensures walked { IfOk result (IsWalked sup.now) }
     ensures kept { OnOk result (KeptWithin (sup.now.at + sup.now.len) seen.old.looked.items seen.new.looked.items) }
     ensures inodes { OnOk result (IsBlockOf (told_image (S.state store.new)) seen.new.inodes) }

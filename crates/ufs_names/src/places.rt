@@ -1,11 +1,12 @@
 //! Where the blocks of a directory stand.
 ghost use Rattle.std.specs.Prelude.{◌≡◌, ◌+◌, ◌≤◌, ◌<◌, ◌≢◌, All, Err, IfOk, None, length, nat_lt};
-ghost use Rattle.piece_defs.specs.Places.{AreWithin, IsWithin, place_in as place_in_by, place_through};
+ghost use Rattle.piece_defs.specs.Places as places_spec;
+ghost use Rattle.piece_defs.specs.Places.{AreWithin, IsWithin, place_through};
 ghost use Rattle.range_defs.specs.declared.TheConstants.{LONGEST_IMAGE};
 ghost use Rattle.rx_store.specs.Answers.{Answers};
 ghost use Rattle.ufs_inode_defs.specs.Superblock.{wrong_field};
 ghost use Rattle.ufs_blocks.specs.Placed.{DoBlocksLieWithin};
-ghost use Rattle.ufs_volume_defs.specs.Names.{directory_blocks as directory_blocks_by};
+ghost use Rattle.ufs_volume_defs.specs.Names as names_spec;
 ghost use Rattle.ufs_names.specs.Walked.{LiesIn};
 ghost use Rattle.ufs_names.specs.Passed.{HasPassed, IsInFront};
 
@@ -29,7 +30,7 @@ fn is_in_front(byte: u64, piece: &Piece) -> bool
 fn place_in(piece: &Piece, byte: u64) -> Option<u64>
     requires within { IsWithin LONGEST_IMAGE piece.now.kind piece.now.at piece.now.len }
     requires front { byte < piece.now.from + piece.now.len }
-    ensures { result ≡ place_in_by piece.now byte }
+    ensures { result ≡ places_spec.place_in piece.now byte }
 {
     match piece.kind {
         PieceKind::Disk => Some(piece.at + byte.saturating_sub(piece.from)),
@@ -74,7 +75,7 @@ pub(crate) fn directory_blocks(
     requires stands { inode.now.at ≤ LONGEST_IMAGE }
     requires within { AreWithin LONGEST_IMAGE pieces.now }
     requires lie { DoBlocksLieWithin sup.now inode.now.size pieces.now }
-    ensures blocks { Answers result (directory_blocks_by sup.now inode.now pieces.now) }
+    ensures blocks { Answers result (names_spec.directory_blocks sup.now inode.now pieces.now) }
     ensures lie { IfOk result (All (LiesIn sup.now inode.now.size)) }
     ensures calm { result ≢ Err ReadFault.Device }
 {

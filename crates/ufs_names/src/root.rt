@@ -8,7 +8,8 @@ ghost use Rattle.rx_store.specs.ReadFaults.{IsReadCounted};
 ghost use Rattle.ufs_inode.specs.Block.{IsBlockOf};
 ghost use Rattle.ufs_inode_defs.specs.Blocks.{most_runs};
 ghost use Rattle.ufs_inode_defs.specs.Superblock.{wrong_field};
-ghost use Rattle.ufs_volume_defs.specs.Names.{most_names, most_path_bytes, names_from as names_from_by, path_bytes, root_inode as root_inode_by, root_name as root_name_by, volume_names};
+ghost use Rattle.ufs_volume_defs.specs.Names as spec;
+ghost use Rattle.ufs_volume_defs.specs.Names.{most_names, most_path_bytes, path_bytes, volume_names};
 ghost use Rattle.ufs_names.specs.Walked.{IsInodeOf, IsNamed, IsWalked, KeptWithin};
 
 use crate::levels::names_below;
@@ -34,7 +35,7 @@ fn root_inode<S: Store>(store: &mut S, sup: &Super, seen: &mut Seen) -> Result<I
     requires inside { sup.now.at + sup.now.len ≤ size_of Image (S.state store.old) }
     requires near { sup.now.at + sup.now.len ≤ LONGEST_IMAGE }
     requires inodes { IsBlockOf (told_image (S.state store.old)) seen.old.inodes }
-    ensures reads { ReadsAs (told_image (S.state store.old)) (root_inode_by sup.now) seen.old.looked.items seen.new.looked.items result }
+    ensures reads { ReadsAs (told_image (S.state store.old)) (spec.root_inode sup.now) seen.old.looked.items seen.new.looked.items result }
     ensures of { IfOk result (IsInodeOf sup.now 2) }
     ensures kept { OnOk result (KeptWithin (sup.now.at + sup.now.len) seen.old.looked.items seen.new.looked.items) }
     ensures inodes { OnOk result (IsBlockOf (told_image (S.state store.new)) seen.new.inodes) }
@@ -57,7 +58,7 @@ fn root_inode<S: Store>(store: &mut S, sup: &Super, seen: &mut Seen) -> Result<I
 
 /// The root's name, the path of which is a slash alone.
 fn root_name(alloc: Global, inode: Inode) -> Result<Name, AllocError>
-    ensures { IfOk result (λ name. name ≡ root_name_by inode) }
+    ensures { IfOk result (λ name. name ≡ spec.root_name inode) }
 {
     Ok(Name {
         number: ROOT,
@@ -81,7 +82,7 @@ fn names_from<S: Store>(
     requires near { sup.now.at + sup.now.len ≤ LONGEST_IMAGE }
     requires of { IsInodeOf sup.now 2 inode }
     requires inodes { IsBlockOf (told_image (S.state store.old)) seen.old.inodes }
-    ensures reads { ReadsAs (told_image (S.state store.old)) (names_from_by sup.now inode) seen.old.looked.items seen.new.looked.items result }
+    ensures reads { ReadsAs (told_image (S.state store.old)) (spec.names_from sup.now inode) seen.old.looked.items seen.new.looked.items result }
     ensures walked { IfOk result (IsWalked sup.now) }
     ensures kept { OnOk result (KeptWithin (sup.now.at + sup.now.len) seen.old.looked.items seen.new.looked.items) }
     ensures inodes { OnOk result (IsBlockOf (told_image (S.state store.new)) seen.new.inodes) }

@@ -1,6 +1,7 @@
 //! The names that were found.
 ghost use Rattle.std.specs.Prelude.{◌≡◌, ◌+◌, ◌^◌, ◌<◌, ◌≤◌, ◌≢◌, ◌∷◌, [], Err, IfOk, length};
-ghost use Rattle.ufs_volume_defs.specs.Names.{counted_name as counted_name_by, is_known, longest_path, most_names, most_path_bytes, path_bytes, with_name as with_name_by};
+ghost use Rattle.ufs_volume_defs.specs.Names as spec;
+ghost use Rattle.ufs_volume_defs.specs.Names.{is_known, longest_path, most_names, most_path_bytes, path_bytes};
 ghost use Rattle.ufs_names.specs.Walked.{Settles};
 
 use crate::name::Name;
@@ -29,6 +30,7 @@ impl Model for Walk {
     ghost use Rattle.std.specs.Prelude.{◌≡◌, ℕ};
     ghost use Rattle.std.specs.BTreeSet.{contains};
     ghost use Rattle.std.specs.Ordering.{nat_cmp};
+    ghost use Rattle.ufs_volume_defs.specs.Names as spec;
     ghost use Rattle.ufs_volume_defs.specs.Names.{Walk, is_known, path_bytes};
 
     ghost Value = { Walk };
@@ -54,7 +56,7 @@ impl Walk {
     /// One more name.
     fn with_name(mut self, name: Name) -> Result<Walk, AllocError>
         requires { path_bytes self.names + length name.path < 2 ^ 64 }
-        ensures { IfOk result (λ walk. walk ≡ with_name_by self name) }
+        ensures { IfOk result (λ walk. walk ≡ spec.with_name self name) }
     {
         let len = name.path.as_str().len() as u64;
         self.known.insert(name.number)?;
@@ -97,8 +99,8 @@ impl Walk {
     pub(crate) fn counted_name(self, name: Name) -> Result<Walk, ReadFault>
         requires fits { length name.path ≤ longest_path }
         requires few { path_bytes self.names ≤ most_path_bytes }
-        ensures settles { Settles result (counted_name_by self name) }
-        ensures value { IfOk result (λ walk. walk ≡ with_name_by self name) }
+        ensures settles { Settles result (spec.counted_name self name) }
+        ensures value { IfOk result (λ walk. walk ≡ spec.with_name self name) }
         ensures few { IfOk result (λ walk. length walk.names ≤ most_names) }
         ensures short { IfOk result (λ walk. path_bytes walk.names ≤ most_path_bytes) }
         ensures calm { result ≢ Err ReadFault.Device }

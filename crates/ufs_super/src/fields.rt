@@ -1,8 +1,10 @@
 //! The fields of a superblock, and what may be wrong with them.
 ghost use Rattle.std.specs.Prelude.{◌≡◌, ◌≤◌, length, IfSome};
-ghost use Rattle.ufs_inode_defs.specs.Layout.{layout_of, pointer_len as pointer_len_by};
-ghost use Rattle.ufs_inode_defs.specs.Numbers.{counted as counted_by};
-ghost use Rattle.ufs_inode_defs.specs.Superblock.{superblock_of, block_size as block_size_by, fragment_size as fragment_size_by, is_block_size as is_block_size_by, is_fragment_size as is_fragment_size_by, is_fragment_count as is_fragment_count_by, is_inode_count as is_inode_count_by, wrong_field as wrong_field_by};
+ghost use Rattle.ufs_inode_defs.specs.Layout as layout_spec;
+ghost use Rattle.ufs_inode_defs.specs.Layout.{layout_of};
+ghost use Rattle.ufs_inode_defs.specs.Numbers as numbers_spec;
+ghost use Rattle.ufs_inode_defs.specs.Superblock as superblock_spec;
+ghost use Rattle.ufs_inode_defs.specs.Superblock.{superblock_of};
 
 use bytes_defs::Order;
 use bytes_defs::field::{i32_at, u32_at};
@@ -10,28 +12,28 @@ use ufs_inode_defs::superblock::Super;
 
 /// What a signed field counts: nothing where it is below 0.
 pub fn non_negative(field: i32) -> u32
-    ensures { result ≡ counted_by field }
+    ensures { result ≡ numbers_spec.counted field }
 {
     field.max(0) as u32
 }
 
 /// The bytes of a block.
 pub fn block_size(sup: &Super) -> u32
-    ensures { result ≡ block_size_by sup.now }
+    ensures { result ≡ superblock_spec.block_size sup.now }
 {
     non_negative(sup.bsize)
 }
 
 /// The bytes of a fragment.
 pub fn fragment_size(sup: &Super) -> u32
-    ensures { result ≡ fragment_size_by sup.now }
+    ensures { result ≡ superblock_spec.fragment_size sup.now }
 {
     non_negative(sup.fsize)
 }
 
 /// The bytes of a pointer in a version, of which 1 is UFS1: `ufs1_daddr_t` and `ufs2_daddr_t`.
 pub fn pointer_len(version: u8) -> u32
-    ensures { result ≡ pointer_len_by version }
+    ensures { result ≡ layout_spec.pointer_len version }
 {
     if version == 1 { 4 } else { 8 }
 }
@@ -72,7 +74,7 @@ pub(crate) fn super_from(at: u64, len: u64, version: u8, order: Order, bytes: &[
 /// Whether blocks have so many bytes.
 #[tactic(auto, unfolding(ufs_inode_defs::specs::Superblock::is_block_size))]
 fn is_block_size(size: u32) -> bool
-    ensures { result ≡ is_block_size_by size }
+    ensures { result ≡ superblock_spec.is_block_size size }
 {
     size.is_power_of_two() && (4096..=65536).contains(&size)
 }
@@ -80,7 +82,7 @@ fn is_block_size(size: u32) -> bool
 /// Whether fragments have so many bytes.
 #[tactic(auto, unfolding(ufs_inode_defs::specs::Superblock::is_fragment_size))]
 fn is_fragment_size(size: u32) -> bool
-    ensures { result ≡ is_fragment_size_by size }
+    ensures { result ≡ superblock_spec.is_fragment_size size }
 {
     size.is_power_of_two() && size >= 512
 }
@@ -88,7 +90,7 @@ fn is_fragment_size(size: u32) -> bool
 /// Whether a block is so many fragments.
 #[tactic(auto, unfolding(ufs_inode_defs::specs::Superblock::is_fragment_count))]
 fn is_fragment_count(count: u32, fragment: u32, block: u32) -> bool
-    ensures { result ≡ is_fragment_count_by count fragment block }
+    ensures { result ≡ superblock_spec.is_fragment_count count fragment block }
 {
     matches!(count, 1 | 2 | 4 | 8) && u64::from(count) * u64::from(fragment) == u64::from(block)
 }
@@ -96,7 +98,7 @@ fn is_fragment_count(count: u32, fragment: u32, block: u32) -> bool
 /// Whether so many inodes are some blocks of inodes.
 #[tactic(auto, unfolding(ufs_inode_defs::specs::Superblock::is_inode_count))]
 fn is_inode_count(inodes: u32, in_block: u32) -> bool
-    ensures { result ≡ is_inode_count_by inodes in_block }
+    ensures { result ≡ superblock_spec.is_inode_count inodes in_block }
 {
     in_block != 0 && inodes >= 1 && inodes % in_block == 0
 }
@@ -104,7 +106,7 @@ fn is_inode_count(inodes: u32, in_block: u32) -> bool
 /// The place in the superblock of the field that is wrong, if one is.
 #[tactic(auto, unfolding(ufs_inode_defs::specs::Superblock::wrong_field))]
 pub(crate) fn wrong_field(sup: &Super) -> Option<u64>
-    ensures place { result ≡ wrong_field_by sup.now }
+    ensures place { result ≡ superblock_spec.wrong_field sup.now }
     ensures near { IfSome result (λ place. place ≤ 188) }
 {
     if !is_block_size(block_size(sup)) {

@@ -10,9 +10,10 @@ ghost use Rattle.image_reads.specs.Steps.{KeptWithin, ReadsAs};
 ghost use Rattle.rx_store.specs.Answers.{Answers};
 ghost use Rattle.rx_store.specs.ReadFaults.{IsReadCounted};
 ghost use Rattle.ufs_inode_defs.specs.Layout.{layout_of};
-ghost use Rattle.ufs_inode_defs.specs.Superblock.{wrong_field as wrong_field_by, super_place, checked_super, super_in, volume_super};
+ghost use Rattle.ufs_inode_defs.specs.Superblock as superblock_spec;
+ghost use Rattle.ufs_inode_defs.specs.Superblock.{super_place, checked_super, super_in, volume_super};
 ghost use Rattle.ufs_super.specs.Looks.{super_looks};
-ghost use Rattle.ufs_super.specs.Magic.{has_magic as has_magic_by};
+ghost use Rattle.ufs_super.specs.Magic as magic_spec;
 
 use crate::fields::{super_from, wrong_field};
 use bytes_defs::Order::Little;
@@ -55,7 +56,7 @@ pub fn read_bytes<const N: usize, S: Store>(store: &mut S, at: u64) -> Result<[u
 /// Whether the volume of `len` bytes at `at` has the magic of a version.
 fn has_magic<S: Store>(store: &mut S, at: u64, len: u64, version: u8) -> Result<bool, Fault>
     requires inside { at + len ≤ size_of Image (S.state store.old) }
-    ensures told { IfOk result (λ has. IfSome (told_image (S.state store.old)) (λ image. has ≡ has_magic_by image at len version)) }
+    ensures told { IfOk result (λ has. IfSome (told_image (S.state store.old)) (λ image. has ≡ magic_spec.has_magic image at len version)) }
     ensures whole { IfOk result (λ has. has ≡ true → (layout_of version).superblock_at + 1376 ≤ len) }
     ensures same { S.state store.new ≡ S.state store.old }
     ensures counted { IsCountedIn Image result (S.faults store.old) (S.faults store.new) }
@@ -71,9 +72,9 @@ fn has_magic<S: Store>(store: &mut S, at: u64, len: u64, version: u8) -> Result<
 /// A superblock, where no field of it is wrong.
 fn checked(sup: Super) -> Result<Super, ReadFault>
     requires ends { super_place sup + 1376 ≤ 18446744073709551615 }
-    ensures answer { Answers result (checked_super sup (wrong_field_by sup)) }
+    ensures answer { Answers result (checked_super sup (superblock_spec.wrong_field sup)) }
     ensures is { IfOk result (λ found. found ≡ sup) }
-    ensures sound { IfOk result (λ found. wrong_field_by found ≡ None) }
+    ensures sound { IfOk result (λ found. superblock_spec.wrong_field found ≡ None) }
     ensures calm { result ≢ Err ReadFault.Device }
     ensures lean { result ≢ Err ReadFault.NoMemory }
 {
@@ -91,7 +92,7 @@ fn read_fields<S: Store>(store: &mut S, at: u64, len: u64, version: u8) -> Resul
     requires inside { at + len ≤ size_of Image (S.state store.old) }
     requires whole { (layout_of version).superblock_at + 1376 ≤ len }
     ensures told { IfSome (told_image (S.state store.old)) (λ image. Answers result (result_of image (super_in (record { at = at; len = len }) version Little))) }
-    ensures sound { IfOk result (λ sup. wrong_field_by sup ≡ None) }
+    ensures sound { IfOk result (λ sup. superblock_spec.wrong_field sup ≡ None) }
     ensures begins { IfOk result (λ sup. sup.at ≡ at) }
     ensures long { IfOk result (λ sup. sup.len ≡ len) }
     ensures version { IfOk result (λ sup. sup.version ≡ version) }
@@ -107,7 +108,7 @@ fn read_fields<S: Store>(store: &mut S, at: u64, len: u64, version: u8) -> Resul
 pub fn read_super<S: Store>(store: &mut S, at: u64, len: u64) -> Result<Super, ReadFault>
     requires inside { at + len ≤ size_of Image (S.state store.old) }
     ensures told { IfSome (told_image (S.state store.old)) (λ image. Answers result (result_of image (volume_super (Little ∷ []) (record { at = at; len = len })))) }
-    ensures sound { IfOk result (λ sup. wrong_field_by sup ≡ None) }
+    ensures sound { IfOk result (λ sup. superblock_spec.wrong_field sup ≡ None) }
     ensures begins { IfOk result (λ sup. sup.at ≡ at) }
     ensures long { IfOk result (λ sup. sup.len ≡ len) }
     ensures whole { IfOk result (λ sup. (layout_of sup.version).superblock_at + 1376 ≤ len) }
@@ -158,7 +159,7 @@ pub fn look_for_super<S: Store>(
 ) -> Result<Super, ReadFault>
     requires inside { at + len ≤ size_of Image (S.state store.old) }
     ensures reads { ReadsAs (told_image (S.state store.old)) (volume_super (Little ∷ []) (record { at = at; len = len })) looked.old.items looked.new.items result }
-    ensures sound { IfOk result (λ sup. wrong_field_by sup ≡ None) }
+    ensures sound { IfOk result (λ sup. superblock_spec.wrong_field sup ≡ None) }
     ensures begins { IfOk result (λ sup. sup.at ≡ at) }
     ensures long { IfOk result (λ sup. sup.len ≡ len) }
     ensures whole { IfOk result (λ sup. (layout_of sup.version).superblock_at + 1376 ≤ len) }

@@ -1,8 +1,9 @@
 //! The sizes of blocks of a volume whose superblock has no wrong field, and the blocks of a stream.
 ghost use Rattle.std.specs.Prelude.{◌≡◌, ◌+◌, ◌<◌, ◌≤◌, None};
-ghost use Rattle.ufs_inode_defs.specs.Layout.{pointer_len as pointer_len_by};
-ghost use Rattle.ufs_inode_defs.specs.Stream.{allocated_len as allocated_len_by, block_count as block_count_by, content_len as content_len_by, span as span_by};
-ghost use Rattle.ufs_inode_defs.specs.Superblock.{block_size as block_size_by, fragment_size as fragment_size_by, wrong_field};
+ghost use Rattle.ufs_inode_defs.specs.Layout as layout_spec;
+ghost use Rattle.ufs_inode_defs.specs.Stream as stream_spec;
+ghost use Rattle.ufs_inode_defs.specs.Superblock as superblock_spec;
+ghost use Rattle.ufs_inode_defs.specs.Superblock.{wrong_field};
 
 use crate::fields;
 use ufs_inode_defs::superblock::Super;
@@ -11,7 +12,7 @@ use ufs_inode_defs::superblock::Super;
 #[tactic(auto, using(crate::proofs::SizeLaws::block_bounds))]
 pub fn block_size(sup: &Super) -> u64
     requires { wrong_field sup.now ≡ None }
-    ensures value { result ≡ block_size_by sup.now }
+    ensures value { result ≡ superblock_spec.block_size sup.now }
     ensures some { 4096 ≤ result }
     ensures most { result ≤ 65536 }
 {
@@ -22,7 +23,7 @@ pub fn block_size(sup: &Super) -> u64
 #[tactic(auto, using(crate::proofs::SizeLaws::fragment_bounds))]
 pub fn fragment_size(sup: &Super) -> u64
     requires { wrong_field sup.now ≡ None }
-    ensures value { result ≡ fragment_size_by sup.now }
+    ensures value { result ≡ superblock_spec.fragment_size sup.now }
     ensures some { 512 ≤ result }
     ensures most { result ≤ 65536 }
 {
@@ -31,7 +32,7 @@ pub fn fragment_size(sup: &Super) -> u64
 
 /// The bytes of a pointer.
 pub fn pointer_len(sup: &Super) -> u64
-    ensures value { result ≡ pointer_len_by sup.now.version }
+    ensures value { result ≡ layout_spec.pointer_len sup.now.version }
     ensures most { result ≤ 8 }
 {
     u64::from(fields::pointer_len(sup.version))
@@ -42,7 +43,7 @@ pub fn pointer_len(sup: &Super) -> u64
 pub fn span(sup: &Super, level: u32) -> u64
     requires sound { wrong_field sup.now ≡ None }
     requires few { level ≤ 3 }
-    ensures value { result ≡ span_by sup.now level }
+    ensures value { result ≡ stream_spec.span sup.now level }
     ensures most { result ≤ 4398046511104 }
 {
     let pointers = u64::from(sup.nindir);
@@ -57,7 +58,7 @@ pub fn span(sup: &Super, level: u32) -> u64
 /// The blocks that so many bytes take up.
 pub fn block_count(sup: &Super, size: u64) -> u64
     requires { wrong_field sup.now ≡ None }
-    ensures { result ≡ block_count_by sup.now size }
+    ensures { result ≡ stream_spec.block_count sup.now size }
 {
     size.div_ceil(block_size(sup))
 }
@@ -65,7 +66,7 @@ pub fn block_count(sup: &Super, size: u64) -> u64
 /// The bytes of a stream of `size` bytes in one of its blocks.
 pub fn content_len(sup: &Super, size: u64, block: u64) -> u64
     requires { wrong_field sup.now ≡ None }
-    ensures value { result ≡ content_len_by sup.now size block }
+    ensures value { result ≡ stream_spec.content_len sup.now size block }
     ensures most { result ≤ 65536 }
 {
     let unit = block_size(sup);
@@ -76,7 +77,7 @@ pub fn content_len(sup: &Super, size: u64, block: u64) -> u64
 #[tactic(auto, using(crate::proofs::SizeLaws::allocated_fits))]
 pub fn allocated_len(sup: &Super, size: u64, block: u64) -> u64
     requires { wrong_field sup.now ≡ None }
-    ensures value { result ≡ allocated_len_by sup.now size block }
+    ensures value { result ≡ stream_spec.allocated_len sup.now size block }
     ensures most { result ≤ 131072 }
 {
     if block < 12 {
