@@ -1,7 +1,7 @@
 -- Laws of what a disk holds after changes.
-use Rattle.std.proofs.Common.{◌≡◌, ℕ, ◌+◌, ◌≤◌, inl, max, Option, Some, None, List, ◌++◌, length, take, drop, refl, ap, arith, length-append, length-take, length-drop}
+use Rattle.std.proofs.Common.{◌≡◌, ℕ, ◌+◌, ◌≤◌, max, Some, List, ◌++◌, length, take, drop, refl, ap, arith, length-append, length-take, length-drop}
 use Rattle.disk_defs.specs.Story.{Change, Write, Cut, Sync, Made, Story, overwritten, held_by, and_then}
-use Rattle.disk_defs.specs.Disk.{State, MayChange, state_told, state_after, IsToldAfterFailed}
+use Rattle.disk_defs.specs.Disk.{State, MayChange, state_told, state_after}
 use Rattle.disk_defs.specs.declared.Area.TheVariants.{Image, Journal}
 
 -- an area is as long as a write takes
@@ -32,7 +32,3 @@ state_told_after (Cut len) story may =
     ap (λ journal. of_sizes (and_then (Made (Cut len)) story) (length (held_by story).image) journal)
     (length-take len (held_by story).journal)
 state_told_after Sync story may = refl
-
-told-unchanged : (change : Change) (told : Option Story) → IsToldAfterFailed change told told
-told-unchanged change None = refl
-told-unchanged change (Some story) = inl refl

@@ -125,14 +125,6 @@ left-own records entries fork_type i e d all found more first within own pushed 
     ∙ sym (append_assoc found (one ∷ []) rest)
     ∙ ap (λ list. list ++ rest) (sym pushed)
 
-pub left-other : (records : List OverflowRecord) (entries : List Entry) (fork_type i : ℕ) (e : Entry) (d : OverflowRecord) (all found : List OverflowRecord) → i < length entries → (get_or entries i e).number < length records
-    → ((get_or records (get_or entries i e).number d).fork_type ≡ fork_type → ⊥)
-    → all ≡ found ++ left_of records fork_type (drop i entries) → all ≡ found ++ left_of records fork_type (drop (i + 1) entries)
-left-other records entries fork_type i e d all found first within other so_far =
-    let one : OverflowRecord = get_or records (get_or entries i e).number d in
-    let rest : List OverflowRecord = left_of records fork_type (drop (i + 1) entries) in
-    so_far ∙ ap (λ list. found ++ list) (left-next records entries fork_type i e d first within ∙ ap (λ test. cond test (one ∷ rest) rest) (eqb_apart one.fork_type fork_type other))
-
 pub left-none : (records : List OverflowRecord) (entries : List Entry) (fork_type i : ℕ) (found : List OverflowRecord) → length entries ≤ i → found ++ left_of records fork_type (drop i entries) ≡ found
 left-none records entries fork_type i found past = ap (λ rest. found ++ left_of records fork_type rest) (drop_all i entries past) ∙ append-nil found
 

@@ -1,10 +1,9 @@
 -- The ways of a reader through a program: it begins, a step gives a value or a refusal, a test passes, and it ends.
-use Rattle.std.specs.Prelude.{◌≡◌, ℕ, suc, ◌+◌, ◌<◌, ◌≤◌, Option, Some, None, IfSome, OnOk, Result, Ok, Err, IsErr, IsErrAnd, List, [], ◌∷◌, ◌++◌, length, drop, get_or}
+use Rattle.std.specs.Prelude.{◌≡◌, ℕ, suc, ◌+◌, ◌<◌, ◌≤◌, Option, Some, None, OnOk, Result, Ok, Err, IsErr, IsErrAnd, List, [], ◌∷◌, ◌++◌, length, drop, get_or}
 use Rattle.std.proofs.Common.{ap, sym, ◌∙◌, subst, arith, append_assoc, append-nil, drop-cons, drop_of_length-le}
 use Rattle.range_defs.specs.declared.Range.{Range}
 use Rattle.std.proofs.lemmas.List.Elements.{All-push}
-use Rattle.bytes_defs.specs.Bytes.{part}
-use Rattle.image_defs.specs.Ask.{Ask, Done, Stop, look, result_of, visits, ◌>>=◌}
+use Rattle.image_defs.specs.Ask.{Ask, Done, Stop, result_of, visits, ◌>>=◌}
 use Rattle.image_defs.specs.Standing.{StandsIn, IsCome}
 use Rattle.image_defs.specs.Through.{through}
 use Rattle.image_defs.proofs.Runs.{result_bind_ok, result_bind_err, visits_bind_ok}
@@ -125,15 +124,6 @@ module _ {Y : Type 0} (told : Option (List ℕ)) (whole : Ask Refusal Y) (before
   pub nothing_ends : {Z : Type 0} (looked : List Range) (seen : Z → Y) (result : Result Z ReadFault) (fault : ReadFault) → IsErr result → IsErrAnd result (λ other. other ≡ fault) → IsNoRefusal fault → ReadsAs told whole before looked (with_value seen result)
   nothing_ends looked seen (Ok z) fault is passed none = absurd cc
   nothing_ends looked seen (Err other) fault is passed none = nothing_says looked other (subst IsNoRefusal (sym passed) none)
-
--- a look at a range whose bytes were read and whose range is kept
-pub look_says : (told later : Option (List ℕ)) (before looked : List Range) (at len : ℕ) (bytes : List ℕ) → later ≡ told → IfSome later (λ image. bytes ≡ part image at len) → looked ≡ before ++ record { at = at; len = len } ∷ []
-    → ReadsAs told (look at len) before looked (Ok bytes)
-look_says told later before looked at len bytes same read kept = by_told told (let P : Option (List ℕ) → Type 0 = λ found. IfSome found (λ image. bytes ≡ part image at len) in subst P same read)
-  where
-    by_told : (found : Option (List ℕ)) → IfSome found (λ image. bytes ≡ part image at len) → ReadsAs found (look at len) before looked (Ok bytes)
-    by_told None read = tt
-    by_told (Some image) read = record { given = ap Ok (sym read); looks = kept }
 
 -- one more range that ends in time
 pub kept_one : (last : ℕ) (before after : List Range) (at len : ℕ) → at + len ≤ last → after ≡ before ++ record { at = at; len = len } ∷ [] → KeptWithin last before after

@@ -1,5 +1,5 @@
 -- Whether a journal stands open, by its length and the first of its bytes.
-use Rattle.std.proofs.Common.{◌≡◌, ℕ, ◌<◌, ◌≤◌, Bool, true, false, nat_eq, Option, None, Some, IfSome, List, [], ◌∷◌, length, slice_index, refl, sym, ◌∙◌, ap, arith}
+use Rattle.std.proofs.Common.{◌≡◌, ℕ, ◌≤◌, Bool, true, false, nat_eq, Option, None, Some, IfSome, List, [], ◌∷◌, length, slice_index, refl, sym, ◌∙◌, ap, arith}
 use Rattle.std.proofs.lemmas.Bool.{eqb-true, eqb-false}
 use Rattle.bytes_defs.specs.Bytes.{part}
 use Rattle.journal_defs.specs.declared.TheConstants.{OPEN_GATE}
@@ -21,7 +21,3 @@ told_open None read len long sized one is = tt
 told_open (Some bytes) read len long sized one is =
     by_byte bytes (slice_index read 0) (nat_eq (slice_index read 0) OPEN_GATE) refl
     (ap (λ list. slice_index list 0) (is ∙ ap (part bytes 0) one) ∙ first_byte bytes) (omega (arith, long, sized))
-
-pub told_short : (told : Option (List ℕ)) (len : ℕ) → len < 41 → IfSome told (λ bytes. length bytes ≡ len) → IfSome told (TellsIfOpen false)
-told_short None len short sized = tt
-told_short (Some bytes) len short sized = λ stands. absurd (omega (arith, short, sized, stands.0))

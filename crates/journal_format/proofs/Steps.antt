@@ -15,7 +15,7 @@ use Rattle.journal_defs.specs.Checks.{Check, first_failing, is_rule, is_listed_r
 use Rattle.journal_defs.specs.Reading.{image_len_in, claim_in, claims_in, line_in, line_end, lines_in, path_in}
 use Rattle.journal_defs.proofs.Passing.{fail_all, fail_with, nothing_fails, pass_all, pass_with, passes}
 use Rattle.journal_format.specs.Header.{front_in}
-use Rattle.journal_format.specs.Says.{FailsAs, FailsWith}
+use Rattle.journal_format.specs.Says.{FailsWith}
 use Rattle.journal_format.specs.declared.listing.Front.{Front}
 use Rattle.journal_format.specs.declared.fault.JournalFault.{JournalFault}
 use Rattle.journal_format.specs.declared.fault.JournalFault.TheVariants.{NotOpen, Bad, OtherLength, Device, NoMemory}
@@ -39,11 +39,6 @@ fails_behind checks whole (Bad at) same fails = same ∙ fails
 fails_behind checks whole (OtherLength kept found) same fails = fails
 fails_behind checks whole Device same fails = tt
 fails_behind checks whole NoMemory same fails = tt
-
--- checks behind others that hold answer as they do
-pub answers_behind : {X : Type 0} (front checks whole : List Check) (result : Result X JournalFault) → whole ≡ front ++ checks → first_failing front ≡ None → FailsAs checks result → FailsAs whole result
-answers_behind front checks whole (Ok value) made none answer = ap first_failing made ∙ pass_all front checks none ∙ answer
-answers_behind front checks whole (Err fault) made none answer = fails_behind checks whole fault (ap first_failing made ∙ pass_all front checks none) answer
 
 -- what holds anyhow holds of an answer
 pub on_ok : {X : Type 0} (P : Type 0) (result : Result X JournalFault) → P → OnOk result P

@@ -1,6 +1,6 @@
 -- A record that passes its checks, its true bytes in place.
 use Rattle.std.proofs.Common.{◌≡◌, ℕ, zero, suc, ◌+◌, ◌-◌, ◌*◌, ◌/◌, ◌%◌, ◌<◌, ◌≤◌, Bool, true, false, List, [], ◌∷◌, length, take, drop, get_or, Result, Ok, Err, arith, lit≤, ap, sym, ◌∙◌, subst, ⊎_elim, refl}
-use Rattle.std.specs.Prelude.{◌&&◌, ◌==◌, nat_le, if◌then◌else◌, IsOk}
+use Rattle.std.specs.Prelude.{◌&&◌, ◌==◌, nat_le, IsOk, if◌then◌else◌}
 use Rattle.std.proofs.lemmas.Bool.{and_parts, leb-true, cases_lt, cases_Bool}
 use Rattle.std.proofs.lemmas.List.{ext_get_or, get_or-take, get_or-drop}
 use Rattle.std.proofs.lemmas.Slice.Eq.{bytes_eq-Decides}
@@ -319,10 +319,6 @@ restored_now bytes now size stored now_is =
     ∙ restored bytes (size_bounds (length bytes) size).1 (stored_passes bytes stored)
 
 -- ---- a record that is found
-
-status_refuses : {X : Type 0} (result : Result X RecordFault) (fault : RecordFault) → status result ≡ Err fault → result ≡ Err fault
-status_refuses (Ok x) fault is = absurd cc
-status_refuses (Err other) fault is = let same : other ≡ fault = cc in ap Err same
 
 pub found_is_mended : (bytes now : List ℕ) → IsRecordSize (length bytes) → record_check bytes ≡ passed → now ≡ mended bytes → IsMended now
 found_is_mended bytes now size is now_is =

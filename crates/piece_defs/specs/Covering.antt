@@ -1,5 +1,5 @@
 -- The pieces of a part.
-use Rattle.std.specs.Prelude.{ℕ, ◌+◌, Bool, true, false, ◌&&◌, ◌||◌, ◌==◌, IsTrue, not, nat_lt, List, [], ◌∷◌}
+use Rattle.std.specs.Prelude.{ℕ, ◌+◌, Bool, true, false, ◌&&◌, ◌==◌, not, nat_lt, List, [], ◌∷◌}
 use Rattle.rx_ranges.specs.declared.pieces.Piece.{Piece}
 use Rattle.rx_ranges.specs.declared.pieces.PieceKind.{PieceKind}
 use Rattle.rx_ranges.specs.declared.pieces.PieceKind.TheVariants.{Disk, Zero}
@@ -25,7 +25,3 @@ abbrev pub covers_from : ℕ → ℕ → List Piece → Bool
 covers_from from size [] = from == size
 covers_from from size (piece ∷ pieces) =
     piece.from == from && (nat_lt 0 piece.len && (starts_new_piece piece pieces && covers_from (from + piece.len) size pieces))
-
--- the pieces of a readable part cover it
-abbrev pub ArePiecesOf : Bool → ℕ → List Piece → Type 0
-ArePiecesOf unreadable size pieces = IsTrue (unreadable || covers_from 0 size pieces)

@@ -72,15 +72,6 @@ no_part : (bytes : List ℕ) (skip m : ℕ) → m ≡ 0 → part bytes skip m �
 unfolding part
 no_part bytes skip m none = ap (λ n. take n (drop skip bytes)) none
 
-pub read_passes : (pieces : List Piece) (image : List ℕ) (from : ℕ) (buf : List ℕ) (done skip i : ℕ) → length buf ≤ done → IsRead pieces image from buf done skip i → IsRead pieces image from buf done skip (i + 1)
-read_passes pieces image from buf done skip i full read =
-    let none : length buf - done ≡ 0 = omega (arith, full) in
-    record {
-      whole =
-          ap (λ bytes. take done buf ++ bytes) (no_part (bytes_through image (drop (i + 1) pieces)) skip (length buf - done) none ∙ sym (no_part (bytes_through image (drop i pieces)) skip (length buf - done) none))
-          ∙ read.whole;
-    }
-
 past_all : (pieces : List Piece) (image : List ℕ) (i skip m : ℕ) → length pieces ≤ i → part (bytes_through image (drop i pieces)) skip m ≡ []
 past_all pieces image i skip m past = ap (λ left. part (bytes_through image left) skip m) (drop_all i pieces past) ∙ part_of_nothing skip m
   where
@@ -127,10 +118,6 @@ pub fills_told : (told : Option (List ℕ)) (size : ℕ) (pieces : List Piece) (
 fills_told None size pieces from buf part_of done skip i count d same inside within begun few is many same_len given read = tt
 fills_told (Some image) size pieces from buf part_of done skip i count d same inside within begun few is many same_len given read =
     read_fills pieces image from buf part_of done skip i count d inside (within_image image size pieces same within) begun few is many same_len given read
-
-pub passes_told : (told : Option (List ℕ)) (pieces : List Piece) (from : ℕ) (buf : List ℕ) (done skip i : ℕ) → length buf ≤ done → IfSome told (λ image. IsRead pieces image from buf done skip i) → IfSome told (λ image. IsRead pieces image from buf done skip (i + 1))
-passes_told None pieces from buf done skip i full read = tt
-passes_told (Some image) pieces from buf done skip i full read = read_passes pieces image from buf done skip i full read
 
 pub ends_told : (told : Option (List ℕ)) (size_of_image : ℕ) (pieces : List Piece) (from size : ℕ) (buf : List ℕ) (done skip i : ℕ) → IfSome told (λ image. length image ≡ size_of_image) → length pieces ≤ i → done ≤ length buf → AreInARow 0 size pieces → AreWithin size_of_image pieces
     → from + length buf ≤ size → IfSome told (λ image. IsRead pieces image from buf done skip i) → IfSome told (λ image. buf ≡ part (bytes_through image pieces) from (length buf))

@@ -1,6 +1,5 @@
 -- Laws of sessions, turn after turn.
 use Rattle.std.proofs.Common.{◌≡◌, ℕ, suc, ◌+◌, ◌≤◌, Option, None, Some, IfSome, Ok, Err, List, [], ◌∷◌, length, take, slice_get, sym, ◌∙◌, ap, subst, arith}
-use Rattle.std.proofs.lemmas.List.{take_all, length-map}
 use Rattle.disk_defs.specs.Story.{Change, Write, Cut, Sync}
 use Rattle.disk_defs.specs.Count.{Faults}
 use Rattle.disk_defs.specs.declared.Area.TheVariants.{Image, Journal}
@@ -23,13 +22,6 @@ one_more_change (one ∷ calls) (suc made) call first is =
   where
     behind : (n : ℕ) → suc n + 1 ≡ suc (n + 1)
     behind n = omega arith
-
--- all of them
-pub all_changes : (calls : List Call) (made : ℕ) (first : State) → length calls ≤ made
-    → state_after_all (take made (changes_of calls)) first ≡ state_after_all (changes_of calls) first
-all_changes calls made first whole =
-    let short : length (changes_of calls) ≤ made = omega (arith, length-map calls (λ (call : Call). call.change), whole) in
-    ap (λ changes. state_after_all changes first) (take_all made (changes_of calls) short)
 
 past_end : {X : Type 0} (xs : List X) (n : ℕ) → slice_get xs n ≡ None → length xs ≤ n
 past_end [] n is = omega arith

@@ -1,5 +1,5 @@
 -- Where a session stands: the call that comes next, and all that are left.
-use Rattle.std.specs.Prelude.{◌≡◌, ℕ, ◌+◌, ◌-◌, ◌*◌, ◌<◌, ◌≤◌, min, Bool, true, false, Option, None, Some, IfSome, replicate, take, drop, List, [], ◌∷◌, ◌++◌, length, slice_index_or}
+use Rattle.std.specs.Prelude.{◌≡◌, ℕ, ◌+◌, ◌-◌, ◌*◌, ◌<◌, ◌≤◌, min, Bool, Option, None, Some, IfSome, replicate, take, drop, List, [], ◌∷◌, ◌++◌, length, slice_index_or}
 use Rattle.std.specs.List.{flat_map}
 use Rattle.disk_defs.specs.Story.{Write, Cut}
 use Rattle.disk_defs.specs.Disk.{Sizes}
@@ -128,8 +128,3 @@ HasCursor plan _ cursor = Unit {0}
 abbrev pub IsCursorAfter : Plan → Step → Cursor → Cursor → Type 0
 IsCursorAfter plan (Body at) before after = IsCursor plan (min (at + PIECE) (journal_len plan)) after
 IsCursorAfter plan _ before after = after ≡ before
-
--- a step that makes a call
-abbrev pub makes_call : Step → Bool
-makes_call End = false
-makes_call _ = true

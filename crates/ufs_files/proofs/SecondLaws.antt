@@ -12,7 +12,7 @@ use Rattle.image_reads.specs.Steps.{ReadsAs}
 use Rattle.image_reads.proofs.Steps.{comes_value, comes_fault, comes_done, ends_with}
 use Rattle.rx_store.specs.declared.read_fault.ReadFault.{ReadFault}
 use Rattle.fault_defs.specs.declared.Refusal.{Refusal}
-use Rattle.rx_tree.specs.Within.{AreRangesWithin, ArePartsWithin}
+use Rattle.rx_tree.specs.Within.{AreRangesWithin}
 use Rattle.ufs_inode_defs.specs.Layout.{layout_of}
 use Rattle.ufs_inode_defs.specs.Superblock.{inode_place, has_inode}
 use Rattle.ufs_inode_defs.specs.Blocks.{most_runs}
@@ -21,7 +21,7 @@ use Rattle.ufs_inode_defs.specs.declared.inode.Inode.{Inode}
 use Rattle.ufs_volume_defs.specs.Files.{Filed, Parted, inode_parts}
 use Rattle.ufs_names.specs.Walked.{IsInodeOf, KeptWithin}
 use Rattle.ufs_files.specs.Groups.{Group}
-use Rattle.ufs_files.specs.Filed.{with_group, group_file, IsGoodGroup, HasFile}
+use Rattle.ufs_files.specs.Filed.{with_group, group_file, IsGoodGroup}
 
 -- ---- the inode of a group
 
@@ -106,13 +106,6 @@ module _ (told : Option (List ℕ)) (sup : Super) (volume : ℕ) (filed parted_f
 
   pub step_kept : (looked : List Range) → KeptWithin (sup.at + sup.len) pushed looked → KeptWithin (sup.at + sup.len) before looked
   step_kept looked within = kept_inode sup group before pushed looked good kept_is within
-
--- a file is added
-pub file_added : (sup : Super) (volume : ℕ) (filed after : Filed) (group : Group) (parted : Parted) → after ≡ with_group sup volume filed group parted → ArePartsWithin (sup.at + sup.len) parted.parts → parted.runs ≤ most_runs
-    → HasFile sup volume filed group after
-file_added sup volume filed after group parted is within few =
-    let P : Filed → Type 0 = λ f. HasFile sup volume filed group f in
-    subst P (sym is) (record { parts = parted.parts; is = refl; within = within; few = few })
 
 pub none_few : (filed : Filed) → filed ≡ record { files = []; runs = 0 } → filed.runs ≤ most_runs
 none_few filed none = let P : Filed → Type 0 = λ f. f.runs ≤ most_runs in subst P (sym none) (omega arith)

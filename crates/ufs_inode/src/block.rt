@@ -16,8 +16,8 @@ const LONGEST_BLOCK: usize = 65_536;
 /// Bytes of the image that were read last, and their place. There are none at first.
 #[derive(Debug, Drop)]
 pub struct InodeBlock {
-    at: u64,
-    bytes: Vec<u8>,
+    pub at: u64,
+    pub bytes: Vec<u8>,
 }
 
 impl InodeBlock {

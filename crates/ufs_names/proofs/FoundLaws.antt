@@ -1,6 +1,6 @@
 -- The name that an entry gives.
-use Rattle.std.specs.Prelude.{◌≡◌, ◌≢◌, ℕ, ◌+◌, ◌*◌, ◌≤◌, All, Bool, true, false, ◌&&◌, nat_le, nat_lt, if◌then◌else◌, IfOk, OnOk, IsErr, IsErrAnd, Option, Result, Ok, Err, List, length, refl}
-use Rattle.std.proofs.Common.{arith, ap, sym, subst, ◌∙◌}
+use Rattle.std.specs.Prelude.{◌≡◌, ◌≢◌, ℕ, ◌+◌, ◌*◌, ◌≤◌, All, Bool, true, false, ◌&&◌, nat_le, nat_lt, IfOk, OnOk, IsErr, IsErrAnd, Option, Result, Ok, Err, List, length, refl, if◌then◌else◌}
+use Rattle.std.proofs.Common.{arith, ap, sym, subst}
 use Rattle.range_defs.specs.declared.Range.{Range}
 use Rattle.image_reads.specs.Steps.{ReadsAs}
 use Rattle.std.proofs.lemmas.Bool.{leb-true}
@@ -73,16 +73,6 @@ pub name_too_long : (name : Named) (path : List ℕ) (result : Result Named Read
 name_too_long name path result fault is passed same says =
     let P : List ℕ → Type 0 = λ one. (let from : Result (List ℕ) ReadFault = Err fault in Answers from (limited_path one)) in
     answers_with (limited_name name) result fault is passed (named_by (nat_le (length name.path) longest_path) name.path name fault (subst P same says))
-
-name_by_test : (test : Bool) (path : List ℕ) (fault : Refusal) (name : Named) → (if test then Ok name.path else Err fault) ≡ Ok path → name.path ≡ path × ((if test then Ok name else Err fault) ≡ Ok name)
-name_by_test true path fault name is = (cc, refl)
-name_by_test false path fault name is = absurd cc
-
-pub name_fits : (name : Named) (made : Named) (path : List ℕ) → limited_path path ≡ Ok made.path → path ≡ name.path → made ≡ record name { path = made.path } → limited_name name ≡ Ok made
-name_fits name made path fits same is =
-    let P : List ℕ → Type 0 = λ one. limited_path one ≡ Ok made.path in
-    let both = name_by_test (nat_le (length name.path) longest_path) made.path (refusal.Limit Path longest_path) name (subst P same fits) in
-    both.1 ∙ ap Ok (sym (is ∙ ap (λ one. record name { path = one }) (sym both.0)))
 
 stops_by : (test : Bool) (name : Named) (next : Unit {0} → Ask Refusal Walk) (fault : ReadFault)
     → (let from : Result Named ReadFault = Err fault in Answers from (if test then Ok name else Err (refusal.Limit Path longest_path)))

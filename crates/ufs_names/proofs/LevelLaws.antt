@@ -1,8 +1,7 @@
 -- The walk goes down from level to level.
-use Rattle.std.specs.Prelude.{◌≡◌, ◌≢◌, ℕ, zero, suc, ◌+◌, ◌-◌, ◌<◌, ◌≤◌, min, Bool, ◌==◌, true, false, if◌then◌else◌, All, IsErr, IsErrAnd, Option, Result, Ok, Err, List, [], ◌∷◌, length, drop, refl}
+use Rattle.std.specs.Prelude.{◌≡◌, ◌≢◌, ℕ, zero, suc, ◌+◌, ◌-◌, ◌<◌, Bool, ◌==◌, true, false, All, IsErr, IsErrAnd, Option, Result, Ok, Err, List, [], ◌∷◌, length, drop, refl, if◌then◌else◌}
 use Rattle.std.specs.List.{AllByRecursion, filter}
-use Rattle.std.proofs.Common.{arith, ap, sym, subst, ◌∙◌, ⊎_elim, drop_of_length-le}
-use Rattle.std.proofs.lemmas.Bool.{cases_lt}
+use Rattle.std.proofs.Common.{arith, ap, sym, subst, ◌∙◌}
 use Rattle.std.proofs.lemmas.Bool.Decides.{Decides-eqb}
 use Rattle.std.proofs.lemmas.List.Elements.{recursion_from_All, All-from_recursion}
 use Rattle.range_defs.specs.declared.Range.{Range}
@@ -19,15 +18,6 @@ use Rattle.image_reads.proofs.Steps.{comes_value, comes_fault, comes_done, comes
 use Rattle.ufs_inode_defs.specs.declared.superblock.Super.{Super}
 use Rattle.ufs_volume_defs.specs.Names.{Named, Walk, deepest, directories_behind, directory_names, names_below, names_directory}
 use Rattle.ufs_names.specs.Walked.{IsNamed}
-
--- names behind more than there are
-pub drop_min : (count : ℕ) (names : List Named) → drop (min count (length names)) names ≡ drop count names
-drop_min count names =
-    ⊎_elim (λ (less : count < length names). let same : min count (length names) ≡ count = omega arith in ap (λ n. drop n names) same)
-    (λ (past : length names ≤ count).
-    let same : min count (length names) ≡ length names = omega arith in
-    ap (λ n. drop n names) same ∙ drop_of_length-le names (omega arith) ∙ sym (drop_of_length-le names past))
-    (cases_lt count (length names))
 
 -- the directories among names are such names
 all_filtered : (P : Named → Type 0) (names : List Named) → AllByRecursion P names → AllByRecursion P (filter names_directory names)

@@ -1,6 +1,6 @@
 -- The blocks of a directory, one after the other, and the pieces that are passed.
-use Rattle.std.specs.Prelude.{◌≡◌, ℕ, suc, ◌+◌, ◌-◌, ◌*◌, ◌<◌, ◌≤◌, Option, Some, None, Result, Ok, Err, List, [], ◌∷◌, ◌++◌, length, drop, get_or, refl}
-use Rattle.std.proofs.Common.{arith, ap, sym, subst, ◌∙◌, append_assoc, append-nil, drop-cons, drop_of_length-le}
+use Rattle.std.specs.Prelude.{◌≡◌, ℕ, suc, ◌+◌, ◌-◌, ◌*◌, ◌<◌, ◌≤◌, Some, None, Result, Ok, Err, List, [], ◌∷◌, ◌++◌, length, drop, get_or, refl}
+use Rattle.std.proofs.Common.{arith, ap, sym, ◌∙◌, append_assoc, append-nil, drop-cons}
 use Rattle.std.proofs.lemmas.Bool.{lt-ltb, le-ltb}
 use Rattle.image_defs.specs.Runs.{with_value, in_front_of, each_result}
 use Rattle.rx_ranges.specs.declared.pieces.Piece.{Piece}
@@ -15,7 +15,7 @@ use Rattle.ufs_inode_defs.specs.Stream.{block_count}
 use Rattle.ufs_inode_defs.specs.declared.superblock.Super.{Super}
 use Rattle.ufs_inode_defs.specs.declared.inode.Inode.{Inode}
 use Rattle.ufs_volume_defs.specs.Names.{Block, placed_block, directory_blocks}
-use Rattle.ufs_names.specs.Passed.{HasPassed, IsInFront}
+use Rattle.ufs_names.specs.Passed.{HasPassed}
 
 -- ---- pieces
 
@@ -42,18 +42,6 @@ passed_more pieces passed byte piece has inside is past = record {
       ∙ ap (λ list. place_through list later) (sym (drop-cons pieces passed piece inside))
       ∙ has.same later from;
 }
-
-pub place_here : (pieces : List Piece) (passed byte : ℕ) (piece : Piece) → HasPassed pieces passed byte → IsInFront pieces passed byte → passed < length pieces → piece ≡ get_or pieces passed piece
-    → place_in piece byte ≡ place_through pieces byte
-place_here pieces passed byte piece has front inside is =
-    let before : byte < piece.from + piece.len = let P : Piece → Type 0 = λ one. byte < one.from + one.len in subst P (sym is) (front piece inside) in
-    sym (through_in piece (drop (suc passed) pieces) byte before)
-    ∙ ap (λ one. place_through (one ∷ drop (suc passed) pieces) byte) is
-    ∙ ap (λ list. place_through list byte) (sym (drop-cons pieces passed piece inside))
-    ∙ has.same byte (omega arith)
-
-pub place_nowhere : (pieces : List Piece) (passed byte : ℕ) → HasPassed pieces passed byte → length pieces ≤ passed → (let none : Option ℕ = None in none ≡ place_through pieces byte)
-place_nowhere pieces passed byte has past = sym (ap (λ list. place_through list byte) (drop_of_length-le pieces past)) ∙ has.same byte (omega arith)
 
 -- ---- blocks
 

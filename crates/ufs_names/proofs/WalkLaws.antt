@@ -58,9 +58,6 @@ settles_reads {X = X} (Some image) looked program result settles = by_result res
 
 -- ---- the ranges that were kept
 
-pub kept_none : (last : ℕ) (looked : List Range) → KeptWithin last looked looked
-kept_none last looked = λ end far all. all
-
 pub kept_on : (last : ℕ) (first second third : List Range) → KeptWithin last first second → KeptWithin last second third → KeptWithin last first third
 kept_on last first second third one two = λ end far all. two end far (one end far all)
 
