@@ -3,15 +3,16 @@
 
     python3 tools/real_files.py [PROGRAM]      PROGRAM is crates/dfredact/out/dfredact where none is given
 
-It makes the small image (tools/small_image.py) in a folder of its own and goes through plan, redact, report, resume and the
-refusals that come of files: a journal that is missing, a folder or the image itself under another name. Where `strace` is there,
-it also sees by the system's calls that both files are synced where the order of a redaction says. Its last line is
-`N checks, all hold`, and it ends with status 1 where one doesn't.
+It makes the small image (tools/small_image.py) in a folder of its own and goes through plan, redact, report, resume, a journal
+of many windows and the refusals that come of files: a journal that is missing, a folder or the image itself under another name.
+Where `strace` is there, it also sees by the system's calls that both files are synced where the order of a redaction says. Its
+last line is `N checks, all hold`, and it ends with status 1 where one doesn't.
 """
 import os
 import pathlib
 import re
 import shutil
+import struct
 import subprocess
 import sys
 import tempfile
@@ -101,6 +102,30 @@ def stopped(at):
     at.run("an empty journal", "resume", "image", "journal", code=9, err=b"dfredact: journal holds no plan\n")
 
 
+def long_journal(at):
+    """A journal of many windows of 65,536 bytes, whose ends lie in ranges and in lines, in paths and in front of them."""
+    at.image.write_bytes(bytes(20000))
+    ranges = b"".join(struct.pack("<QQIB3x", 2 * i, 1, 1, 0x58) for i in range(6000))
+    paths = [b"/" + b"x" * (more * 8191 % 65535) for more in range(40)] + [b"/" + b"y" * 65534] * 3 + [b"/%d" % i for i in range(9000)]
+    begins, listing = [], b""
+    for path in paths:
+        begins.append(40 + len(ranges) + len(listing))
+        listing += struct.pack("<BIH", 1, 1, len(path)) + path
+    body = len(ranges) + len(listing) + 95
+    journal = b"ODFRJ v1" + struct.pack("<QIIQQ", 20000, 6000, len(paths), body, len(listing)) + ranges + listing + b"D" * 95
+    report = b"redaction done\nimage 20000\nranges 6000\nbytes 6000\n" + b"".join(b"RANGE %d 1 1 0x58\n" % (2 * i) for i in range(6000))
+    report += b"".join(b"FILE 1 " + path + b"\n" for path in paths)
+    at.journal.write_bytes(journal)
+    at.run("report of a long journal", "report", "journal", code=0, out=report)
+    for i in (2730, 2731, 5999):
+        at.journal.write_bytes(journal[: 40 + 24 * i + 21] + b"\1" + journal[40 + 24 * i + 22 :])
+        at.run(f"range {i} is bad", "report", "journal", code=9, err=b"dfredact: journal is bad at %d\n" % (40 + 24 * i + 21))
+    for i in (0, 7, 41, 42, 5000, len(paths) - 1):
+        for field in (0, 7):
+            at.journal.write_bytes(journal[: begins[i] + field] + b"\x7f" + journal[begins[i] + field + 1 :])
+            at.run(f"line {i} is bad", "report", "journal", code=9, err=b"dfredact: journal is bad at %d\n" % (begins[i] + field))
+
+
 def one_file(at):
     at.image.write_bytes(at.old)
     for make in (os.link, os.symlink):
@@ -169,7 +194,7 @@ def main():
     program = pathlib.Path(sys.argv[1] if len(sys.argv) > 1 else TOP / "crates/dfredact/out/dfredact").resolve()
     with tempfile.TemporaryDirectory() as folder:
         at = Place(folder, program)
-        for part in (commands, stopped, one_file):
+        for part in (commands, stopped, long_journal, one_file):
             part(at)
         if shutil.which("strace"):
             traced(at)

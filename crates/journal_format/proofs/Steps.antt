@@ -40,11 +40,7 @@ fails_behind checks whole (OtherLength kept found) same fails = fails
 fails_behind checks whole Device same fails = tt
 fails_behind checks whole NoMemory same fails = tt
 
--- what holds anyhow holds of an answer
-pub on_ok : {X : Type 0} (P : Type 0) (result : Result X JournalFault) → P → OnOk result P
-on_ok P (Ok value) holds = holds
-on_ok P (Err fault) holds = tt
-
+-- what holds of an answer
 pub ok_weaker : {X : Type 0} (P Q : X → Type 0) (result : Result X JournalFault) → ((value : X) → P value → Q value) → IfOk result P → IfOk result Q
 ok_weaker P Q (Ok value) more holds = more value holds
 ok_weaker P Q (Err fault) more holds = tt
