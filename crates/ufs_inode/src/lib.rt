@@ -4,7 +4,8 @@
 //! `ino_to_fsba` and `ino_to_fsbo` of sys/ufs/ffs/fs.h, which say where an inode stands. `read_inode` answers the inode of a
 //! number, or Damaged(InodeNumber) at the entry that names it where the volume has none of that number, and tests it: it is
 //! in use (else Damaged(DeadInode)), no snapshot (else Unsupported(Snapshot)), and its sizes are within what its pointers reach
-//! (else Damaged(FileSize)). It takes no memory. `look_at_inode` answers the same, and keeps the range of the inode.
+//! (else Damaged(FileSize)). It takes no memory. `look_at_inode` answers the same, and keeps the range of the inode;
+//! it reads the block of the inode table round it, and none for an inode that stands in the block that it read last.
 //!
 //!     let root = read_inode(&mut store, &sup, 2, 65_536)?;
 //!     root.direct[0]        // the fragment at which the root's first block begins
