@@ -38,9 +38,9 @@ impl RangeList {
     {
         let mut sorted = ranges;
         sorted.sort_unstable_by_key(|range| range.at);
-        Ok(RangeList {
-            ranges: merged(alloc, &sorted)?,
-        })
+        let mut ranges = merged(alloc, &sorted)?;
+        ranges.shrink_to_fit();
+        Ok(RangeList { ranges })
     }
 
     /// The least byte that both sets have; None where they share none.
