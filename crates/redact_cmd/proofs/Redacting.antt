@@ -18,19 +18,18 @@ use Rattle.text_defs.specs.declared.ReportState.TheVariants as state
 use Rattle.rule_parse.specs.declared.RuleFault.{RuleFault}
 use Rattle.rule_parse.specs.declared.RuleFault.TheVariants as rules
 use Rattle.rx_plan.specs.declared.PlanFault.{PlanFault}
-use Rattle.rx_plan.specs.declared.PlanFault.TheVariants as plan
 use Rattle.cmd_defs.specs.JournalFacts.{IsUntouched}
 use Rattle.cmd_defs.specs.Outcome.{IfTextAndHeld}
 use Rattle.cmd_defs.specs.RedactCommand.{IsPlanned, IsRedacted, HasRedacted, RedactSays}
 use Rattle.cmd_defs.specs.declared.status.Status.{Status}
-use Rattle.cmd_defs.specs.declared.status.Status.TheVariants.{DeviceFault, JournalOpen}
+use Rattle.cmd_defs.specs.declared.status.Status.TheVariants.{Done, Usage, PlanRefused, JournalOpen, JournalRefused, DeviceFault, SourceFault, SinkFault, NoMemory, NotBuilt}
+use Rattle.cmd_defs.specs.declared.status.PlanRefusal.TheVariants.{MeetsGuard}
+use Rattle.cmd_defs.specs.PlanCommand.{PlanSays}
 use Rattle.cmd_defs.proofs.StoreLaws.{script_carried}
 use Rattle.image_reader.specs.Says.{HasTree, TellsTree}
 use Rattle.image_reader.specs.declared.fault.ImageFault.{ImageFault}
-use Rattle.image_reader.specs.declared.fault.ImageFault.TheVariants.{OtherKind, Read}
-use Rattle.rx_store.specs.declared.read_fault.ReadFault.TheVariants as read
 use Rattle.redact_cmd.specs.Stages.{status_of_rules, status_of_reading, status_of_planning}
-use Rattle.redact_cmd.proofs.Says.{refuses, NamesGuarded, NamesLimit}
+use Rattle.redact_cmd.proofs.Says.{image_refused, plan_refused, NamesGuarded, NamesLimit}
 
 -- ---- the rules
 
@@ -64,46 +63,40 @@ journal_open None told before now W P rules reads stands = tt
 journal_open (Some t) None before now W P rules reads stands = tt
 journal_open (Some t) (Some h) before now W P rules reads stands = ((rules, reads), stands)
 
--- ---- the image
+-- ---- the image and the plan
 
-reading_says : (text : Option (List ℕ)) (told : Option Held) (before now : State) (W P : List ℕ → Type 0) (rules : List Rule) (fault : ImageFault) → IfSome text (λ t. Reads t rules)
-    → IsUntouched before now → IfSome told (λ h. ¬ (IsOpen h.journal)) → IfSome told (λ h. TellsTree (Err fault) h.image)
-    → IfTextAndHeld text told (λ t h. RedactSays (status_of_reading fault) t h before now W P)
-reading_says None told before now W P rules fault reads untouched closed tells = tt
-reading_says (Some t) None before now W P rules fault reads untouched closed tells = tt
-reading_says (Some t) (Some h) before now W P rules OtherKind reads untouched closed tells = (inr tells, λ says. closed)
-reading_says (Some t) (Some h) before now W P rules (Read read.Device) reads untouched closed tells = ((rules, reads), inl untouched)
-reading_says (Some t) (Some h) before now W P rules (Read read.NoMemory) reads untouched closed tells = tt
-reading_says (Some t) (Some h) before now W P rules (Read (read.Limit bound number)) reads untouched closed tells = (inl (refuses t h.image rules _ reads tells), closed)
-reading_says (Some t) (Some h) before now W P rules other reads untouched closed tells = (refuses t h.image rules _ reads tells, closed)
+-- a status of `plan` that says of no report is one of `redact` behind a journal that doesn't stand open
+from_plan : (t : List ℕ) (h : Held) (before now : State) (W P : List ℕ → Type 0) (status : Status) → PlanSays status t h.image (λ text. ⊥) (λ text. ⊥)
+    → IsUntouched before now → ¬ (IsOpen h.journal) → RedactSays status t h before now W P
+from_plan t h before now W P Done says untouched closed = absurd says.5
+from_plan t h before now W P SinkFault says untouched closed = absurd says.5
+from_plan t h before now W P Usage says untouched closed = absurd says
+from_plan t h before now W P JournalOpen says untouched closed = absurd says
+from_plan t h before now W P (JournalRefused refusal) says untouched closed = absurd says
+from_plan t h before now W P SourceFault says untouched closed = tt
+from_plan t h before now W P NoMemory says untouched closed = tt
+from_plan t h before now W P DeviceFault says untouched closed = (says, inl untouched)
+from_plan t h before now W P NotBuilt says untouched closed = (says, λ rules. closed)
+from_plan t h before now W P (PlanRefused (MeetsGuard byte number)) says untouched closed = (says, closed)
+from_plan t h before now W P status says untouched closed = (says, closed)
 
 pub no_tree : (text : Option (List ℕ)) (told : Option Held) (before now : State) (W P : List ℕ → Type 0) (rules : List Rule) (fault : ImageFault) (status : Status)
     → status ≡ status_of_reading fault → IfSome text (λ t. Reads t rules)
     → IsUntouched before now → IfSome told (λ h. ¬ (IsOpen h.journal)) → IfSome told (λ h. TellsTree (Err fault) h.image)
     → IfTextAndHeld text told (λ t h. RedactSays status t h before now W P)
-no_tree text told before now W P rules fault status is reads untouched closed tells =
-    subst (λ status. IfTextAndHeld text told (λ t h. RedactSays status t h before now W P)) (sym is) (reading_says text told before now W P rules fault reads untouched closed tells)
-
--- ---- the plan
-
-planning_says : (text : Option (List ℕ)) (told : Option Held) (before now : State) (W P : List ℕ → Type 0) (rules : List Rule) (tree : TreeValue) (fault : PlanFault)
-    → IfSome text (λ t. Reads t rules) → IfSome told (λ h. ¬ (IsOpen h.journal)) → IfSome told (λ h. HasTree h.image (Ok tree))
-    → NamesGuarded tree rules fault → NamesLimit tree rules fault → IfTextAndHeld text told (λ t h. RedactSays (status_of_planning fault) t h before now W P)
-planning_says None told before now W P rules tree fault reads closed tree_is guarded limit = tt
-planning_says (Some t) None before now W P rules tree fault reads closed tree_is guarded limit = tt
-planning_says (Some t) (Some h) before now W P rules tree (plan.MeetsGuard at rule) reads closed tree_is guarded limit =
-    let meets = guarded at rule refl in
-    ((rules, tree, record { reads = reads; no_other = tree_is.0; tree_is = tree_is.1 }, meets.0, meets.1), closed)
-planning_says (Some t) (Some h) before now W P rules tree (plan.Limit bound number) reads closed tree_is guarded limit =
-    let passed = limit bound number refl in
-    (inr (rules, tree, record { reads = reads; no_other = tree_is.0; tree_is = tree_is.1 }, passed.0, passed.1, passed.2), closed)
-planning_says (Some t) (Some h) before now W P rules tree plan.NoMemory reads closed tree_is guarded limit = tt
+no_tree None told before now W P rules fault status is reads untouched closed tells = tt
+no_tree (Some t) None before now W P rules fault status is reads untouched closed tells = tt
+no_tree (Some t) (Some h) before now W P rules fault status is reads untouched closed tells =
+    from_plan t h before now W P status (image_refused (Some t) (Some h.image) (λ text. ⊥) (λ text. ⊥) rules fault status is reads tells) untouched closed
 
 pub no_plan : (text : Option (List ℕ)) (told : Option Held) (before now : State) (W P : List ℕ → Type 0) (rules : List Rule) (tree : TreeValue) (fault : PlanFault) (status : Status)
-    → status ≡ status_of_planning fault → IfSome text (λ t. Reads t rules) → IfSome told (λ h. ¬ (IsOpen h.journal)) → IfSome told (λ h. HasTree h.image (Ok tree))
+    → status ≡ status_of_planning fault → IfSome text (λ t. Reads t rules) → IsUntouched before now → IfSome told (λ h. ¬ (IsOpen h.journal)) → IfSome told (λ h. HasTree h.image (Ok tree))
     → NamesGuarded tree rules fault → NamesLimit tree rules fault → IfTextAndHeld text told (λ t h. RedactSays status t h before now W P)
-no_plan text told before now W P rules tree fault status is reads closed tree_is guarded limit =
-    subst (λ status. IfTextAndHeld text told (λ t h. RedactSays status t h before now W P)) (sym is) (planning_says text told before now W P rules tree fault reads closed tree_is guarded limit)
+no_plan None told before now W P rules tree fault status is reads untouched closed tree_is guarded limit = tt
+no_plan (Some t) None before now W P rules tree fault status is reads untouched closed tree_is guarded limit = tt
+no_plan (Some t) (Some h) before now W P rules tree fault status is reads untouched closed tree_is guarded limit =
+    from_plan t h before now W P status
+    (plan_refused (Some t) (Some h.image) (λ text. ⊥) (λ text. ⊥) rules tree fault status is reads tree_is guarded limit) untouched closed
 
 -- the plan of a tree has the length of the tree's image
 plan_len : (tree : TreeValue) (rules : List Rule) → (plan_of tree rules).image_len ≡ tree.image_len

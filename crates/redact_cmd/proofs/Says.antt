@@ -42,7 +42,7 @@ pub rules_refused : (text image : Option (List ℕ)) (W P : List ℕ → Type 0)
 rules_refused text image W P fault status is other = told_of text image W P status (status_of_rules fault) is (rules_say text image W P fault other)
 
 -- the image has no tree for this reason
-pub refuses : (text image : List ℕ) (rules : List Rule) (refusal : Refusal) → Reads text rules → HasTree image (Err refusal) → RefusesImage refusal text image
+refuses : (text image : List ℕ) (rules : List Rule) (refusal : Refusal) → Reads text rules → HasTree image (Err refusal) → RefusesImage refusal text image
 refuses text image rules refusal reads has = record { says = (rules, reads); no_other = has.0; refused = has.1 }
 
 image_says : (text image : Option (List ℕ)) (W P : List ℕ → Type 0) (rules : List Rule) (fault : ImageFault) → IfSome text (λ t. Reads t rules)

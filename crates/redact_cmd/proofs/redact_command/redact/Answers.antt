@@ -48,7 +48,7 @@ returns-in-Err-make_plan-clause-says g c =
     (subst (λ answer. IfSome (told_journal (g.S.Store.state c.sync.new.self)) (TellsIfOpen answer)) c.in-Ok-false.field-0-test c.in-Ok-false.ensures.told) in
     let tree_is = of_synced Image before (g.S.Store.state c.stands_open.new.store) (λ image. HasTree image (Ok c.in-Ok-read_image.tree)) is c.in-Ok-read_image.ensures.told in
     no_plan _ (held before) before (g.S.Store.state c.make_plan.new.store) _ _ c.in-Ok.rules c.in-Ok-read_image.tree c.in-Err-make_plan.fault c.status_of_planning.result
-    c.status_of_planning.ensures c.in-Ok.ensures.read closed tree_is
+    c.status_of_planning.ensures c.in-Ok.ensures.read (inr (ap g.S.Store.state c.in-Err-make_plan.ensures.idle ∙ c.in-Ok-read_image.ensures.same ∙ is)) closed tree_is
     (λ at rule given. c.in-Err-make_plan.ensures.guarded at rule (ap Err given)) (λ bound number given. c.in-Err-make_plan.ensures.limit bound number (ap Err given))
 
 pub finish-requires-clause-sizes : goal.finish-requires-clause-sizes
