@@ -4,4 +4,4 @@ pub mod JournalLaws
 pub mod Lines
 pub mod Passing
 pub mod Ranges
-mod Rows
+pub mod Rows

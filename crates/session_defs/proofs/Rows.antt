@@ -1,9 +1,9 @@
 -- A session worked out by hand: three bytes of an image of eight.
-use Rattle.std.specs.Prelude.{◌≡◌, ℕ, codes, set, false, true, List, [], ◌∷◌, refl}
+use Rattle.std.specs.Prelude.{◌≡◌, ℕ, set, false, true, List, [], ◌∷◌, refl}
 use Rattle.disk_defs.specs.Story.{Change, Cut, Sync, Write, overwritten}
 use Rattle.disk_defs.specs.declared.Area.TheVariants.{Image, Journal}
+use Rattle.journal_defs.proofs.Rows.{three_bytes_in, behind_gate}
 use Rattle.journal_defs.specs.Form.{header_rest, journal_bytes, line_bytes, little, range_bytes}
-use Rattle.rx_ranges.specs.declared.plan.ListKind.TheVariants.{File}
 use Rattle.rx_ranges.specs.declared.plan.Plan.{Plan}
 use Rattle.session_defs.specs.Outcome.{changed_all, done_journal, filled, filled_from}
 use Rattle.session_defs.specs.Script.{changes_of, journal_calls, rest_of, script, unmarked_calls, writes}
@@ -15,11 +15,7 @@ computing = tt
 
 -- rule 1 fills three bytes, from byte 2 on, with 0x58
 abbrev three_bytes : Plan
-three_bytes = record {
-  image_len = 8;
-  ranges = record { range = record { at = 2; len = 3 }; rule = 1; fill = 0x58 } ∷ [];
-  listing = record { kind = File; rule = 1; path = codes "/a" } ∷ [];
-}
+three_bytes = three_bytes_in 8 2
 
 abbrev image : List ℕ
 image = 0x10 ∷ 0x11 ∷ 0x12 ∷ 0x13 ∷ 0x14 ∷ 0x15 ∷ 0x16 ∷ 0x17 ∷ []
@@ -29,17 +25,7 @@ image_filled = 0x10 ∷ 0x11 ∷ 0x58 ∷ 0x58 ∷ 0x58 ∷ 0x15 ∷ 0x16 ∷ 0x
 
 -- its journal behind the gate, with no mark
 abbrev body : List ℕ
-body =
-    0x44 ∷ 0x46 ∷ 0x52 ∷ 0x4A ∷ 0x20 ∷ 0x76 ∷ 0x31
-    ∷ 0x08 ∷ 0x00 ∷ 0x00 ∷ 0x00 ∷ 0x00 ∷ 0x00 ∷ 0x00 ∷ 0x00
-    ∷ 0x01 ∷ 0x00 ∷ 0x00 ∷ 0x00 ∷ 0x01 ∷ 0x00 ∷ 0x00 ∷ 0x00
-    ∷ 0x23 ∷ 0x00 ∷ 0x00 ∷ 0x00 ∷ 0x00 ∷ 0x00 ∷ 0x00 ∷ 0x00
-    ∷ 0x09 ∷ 0x00 ∷ 0x00 ∷ 0x00 ∷ 0x00 ∷ 0x00 ∷ 0x00 ∷ 0x00
-    ∷ 0x02 ∷ 0x00 ∷ 0x00 ∷ 0x00 ∷ 0x00 ∷ 0x00 ∷ 0x00 ∷ 0x00
-    ∷ 0x03 ∷ 0x00 ∷ 0x00 ∷ 0x00 ∷ 0x00 ∷ 0x00 ∷ 0x00 ∷ 0x00
-    ∷ 0x01 ∷ 0x00 ∷ 0x00 ∷ 0x00 ∷ 0x58 ∷ 0x00 ∷ 0x00 ∷ 0x00
-    ∷ 0x01 ∷ 0x01 ∷ 0x00 ∷ 0x00 ∷ 0x00 ∷ 0x02 ∷ 0x00 ∷ 0x2F
-    ∷ 0x61 ∷ 0x00 ∷ 0x00 ∷ []
+body = behind_gate (0x08 ∷ 0x00 ∷ 0x00 ∷ 0x00 ∷ 0x00 ∷ 0x00 ∷ 0x00 ∷ 0x00 ∷ []) (0x02 ∷ 0x00 ∷ 0x00 ∷ 0x00 ∷ 0x00 ∷ 0x00 ∷ 0x00 ∷ 0x00 ∷ []) 0
 
 abbrev journal_filled : List ℕ
 journal_filled = set (set (0x4F ∷ body) 73 0x44) 74 0x44
