@@ -30,7 +30,6 @@ impl Model for Walk {
     ghost use Rattle.std.specs.Prelude.{◌≡◌, ℕ};
     ghost use Rattle.std.specs.BTreeSet.{contains};
     ghost use Rattle.std.specs.Ordering.{nat_cmp};
-    ghost use Rattle.ufs_volume_defs.specs.Names as spec;
     ghost use Rattle.ufs_volume_defs.specs.Names.{Walk, is_known, path_bytes};
 
     ghost Value = { Walk };
