@@ -46,7 +46,6 @@ pub struct Leaves {
 impl Model for Leaves {
     ghost use Rattle.std.specs.Prelude.{length, ◌-◌};
     ghost use Rattle.hfs_defs.specs.Leaves.{leaves_from};
-    ghost use Rattle.hfs_btree.specs.Cursor as cursor_spec;
     ghost use Rattle.hfs_btree.specs.Cursor.{Cursor, current_of};
     ghost use Rattle.hfs_btree.specs.Kept.{IsKept};
 

@@ -18,7 +18,6 @@ pub struct Entry<'a> {
 }
 
 impl<'a> Model for Entry<'a> {
-    ghost use Rattle.ufs_volume_defs.specs.Directory as spec;
     ghost use Rattle.ufs_volume_defs.specs.Directory.{Entry};
 
     ghost Value = { Entry };

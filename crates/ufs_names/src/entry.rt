@@ -34,7 +34,6 @@ pub(crate) struct Block {
 }
 
 impl Model for Block {
-    ghost use Rattle.ufs_volume_defs.specs.Names as names_spec;
     ghost use Rattle.ufs_volume_defs.specs.Names.{Block};
 
     ghost Value = { Block };
