@@ -38,9 +38,17 @@ abbrev pub FailsAs : {X : Type 0} → List Check → Result X JournalFault → T
 FailsAs checks (Ok value) = first_failing checks ≡ None
 FailsAs checks (Err fault) = FailsWith checks fault
 
--- the counts of a store before and after calls on its journal that end with this fault: only a device's fault counts one
+-- a fault that comes without a call, and that reading a journal may answer
+abbrev pub IsCalm : JournalFault → Type 0
+IsCalm Device = ⊥
+IsCalm (OtherLength kept found) = ⊥
+IsCalm _ = Unit {0}
+
+-- the counts of a store before and after calls on its journal that end with this fault: only a device's fault counts one, and
+-- another length is never answered
 abbrev pub IsFaultCounted : JournalFault → Faults → Faults → Type 0
 IsFaultCounted Device before now = FailedIn Journal before now
+IsFaultCounted (OtherLength kept found) before now = ⊥
 IsFaultCounted _ before now = now ≡ before
 
 -- The counts of a store before and after its journal was read: Device comes only where a call on the journal failed, and

@@ -1,5 +1,5 @@
 //! What a journal holds behind its header.
-ghost use Rattle.std.specs.Prelude.{◌≡◌, ◌≢◌, ◌+◌, ◌*◌, ◌<◌, ◌≤◌, ◌-◌, ℕ, List, [], map, Err, IfOk, IfSome, OnOk, None, length, slice_index};
+ghost use Rattle.std.specs.Prelude.{◌≡◌, ◌≢◌, ◌+◌, ◌*◌, ◌<◌, ◌≤◌, ◌-◌, ℕ, List, [], map, Err, IfErr, IfOk, IfSome, OnOk, None, length, slice_index};
 ghost use Rattle.bytes_defs.specs.Bytes.{part};
 ghost use Rattle.disk_defs.specs.Disk.{size_of, told_of};
 ghost use Rattle.disk_defs.specs.declared.Area.TheVariants.{Journal};
@@ -11,7 +11,7 @@ ghost use Rattle.journal_defs.specs.Reading.{plan_in};
 ghost use Rattle.journal_defs.specs.declared.TheConstants.{OPEN_GATE};
 ghost use Rattle.journal_format.specs.Header.{IsHeader, checks_of, header_in};
 ghost use Rattle.journal_format.specs.Parts.{Always, IsPart, IsWindow, ReadsPart};
-ghost use Rattle.journal_format.specs.Says.{Says, IsState, FailsAs, IsReadCounted};
+ghost use Rattle.journal_format.specs.Says.{IsCalm, Says, IsState, FailsAs, IsReadCounted};
 
 use crate::fault::JournalFault;
 use crate::fields::{Header, first_failing, header_checks};
@@ -47,7 +47,7 @@ pub(crate) fn checked_header(bytes: &[u8], len: u64) -> Result<Header, JournalFa
     ensures few { IfOk result (λ header. header.ranges ≤ MAX_RANGES) }
     ensures short { IfOk result (λ header. header.listing_len ≤ MAX_LISTING_BYTES) }
     ensures fits { IfOk result (λ header. 40 + 24 * header.ranges + header.listing_len + (group_count header.ranges + 1) ≡ len) }
-    ensures calm { result ≢ Err JournalFault.Device }
+    ensures calm { IfErr result IsCalm }
 {
     match first_failing(&header_checks(bytes, len)) {
         None => Ok(Header::of(bytes)),

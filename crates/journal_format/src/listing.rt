@@ -1,5 +1,5 @@
 //! The listing of a journal.
-ghost use Rattle.std.specs.Prelude.{◌≡◌, ◌≢◌, ◌+◌, ◌*◌, ◌^◌, ◌<◌, ◌≤◌, ◌==◌, ◌&&◌, ◌||◌, ◌∷◌, ℕ, None, Err, List, [], ◌++◌, true, false, take, IfOk, OnOk, MatchOption, length};
+ghost use Rattle.std.specs.Prelude.{◌≡◌, ◌≢◌, ◌+◌, ◌*◌, ◌^◌, ◌<◌, ◌≤◌, ◌==◌, ◌&&◌, ◌||◌, ◌∷◌, ℕ, None, Err, List, [], ◌++◌, true, false, take, IfErr, IfOk, OnOk, MatchOption, length};
 ghost use Rattle.std.specs.List.{list_all};
 ghost use Rattle.bytes_defs.specs.Bytes.{part};
 ghost use Rattle.bytes_defs.specs.Numbers.{little_at};
@@ -10,7 +10,7 @@ ghost use Rattle.journal_defs.specs.Reading as reading_spec;
 ghost use Rattle.journal_defs.specs.Reading.{path_len_in, line_in, line_end, lines_in};
 ghost use Rattle.journal_format.specs.Header.{front_in};
 ghost use Rattle.journal_format.specs.Parts.{Always, IsWindow, ReadsPart};
-ghost use Rattle.journal_format.specs.Says.{FailsAs, IsReadCounted};
+ghost use Rattle.journal_format.specs.Says.{IsCalm, FailsAs, IsReadCounted};
 ghost use Rattle.rx_ranges.specs.Path.{begins_with_slash, is_printed};
 ghost use Rattle.rx_ranges.specs.PlanChecks.{listed_len};
 
@@ -127,7 +127,7 @@ fn front_at(bytes: &[u8], at: u64, end: u64) -> Result<Front, JournalFault>
     ensures says { (whole : List ℕ) → part whole at 7 ≡ bytes.now → FailsAs (take 3 (checks_spec.line_checks whole end at)) result }
     ensures is { IfOk result (λ front. front ≡ front_in bytes.now 0) }
     ensures ends { IfOk result (λ front. at + (7 + front.path_len) ≤ end) }
-    ensures calm { result ≢ Err JournalFault.Device }
+    ensures calm { IfErr result IsCalm }
 {
     let checks = front_checks(bytes, at, end);
     match first_failing(&checks) {
@@ -165,7 +165,7 @@ fn read_front<S: Store>(
 fn path_of(alloc: Global, bytes: &[u8], at: u64) -> Result<Text, JournalFault>
     ensures says { FailsAs ((at, checks_spec.is_path bytes.now) ∷ []) result }
     ensures is { IfOk result (λ path. path ≡ bytes.now) }
-    ensures calm { result ≢ Err JournalFault.Device }
+    ensures calm { IfErr result IsCalm }
 {
     let Some(path) = as_path(bytes) else {
         return Err(JournalFault::Bad { at });

@@ -1,5 +1,5 @@
 //! The ranges of a journal.
-ghost use Rattle.std.specs.Prelude.{◌≡◌, ◌≢◌, ◌+◌, ◌*◌, ◌^◌, ◌<◌, ◌≤◌, ◌==◌, ◌&&◌, ℕ, None, Err, List, not, nat_le, nat_lt, IfOk, OnOk, length};
+ghost use Rattle.std.specs.Prelude.{◌≡◌, ◌≢◌, ◌+◌, ◌*◌, ◌^◌, ◌<◌, ◌≤◌, ◌==◌, ◌&&◌, ℕ, None, Err, List, not, nat_le, nat_lt, IfErr, IfOk, OnOk, length};
 ghost use Rattle.bytes_defs.specs.Bytes.{part};
 ghost use Rattle.bytes_defs.specs.Numbers.{little_at};
 ghost use Rattle.journal_defs.specs.Checks as spec;
@@ -8,7 +8,7 @@ ghost use Rattle.rx_ranges.specs.declared.plan.TheConstants.{MAX_RANGES};
 ghost use Rattle.disk_defs.specs.Disk.{size_of, told_of};
 ghost use Rattle.disk_defs.specs.declared.Area.TheVariants.{Journal};
 ghost use Rattle.journal_format.specs.Parts.{IsWindow, ReadsPart};
-ghost use Rattle.journal_format.specs.Says.{FailsAs, IsReadCounted};
+ghost use Rattle.journal_format.specs.Says.{IsCalm, FailsAs, IsReadCounted};
 
 use crate::fault::JournalFault;
 use crate::fields::{claim_of, first_failing};
@@ -92,7 +92,7 @@ fn range_at(
     ensures says { (whole : List ℕ) → part whole at 24 ≡ bytes.now → image_len ≡ image_len_in whole → FailsAs (spec.range_checks whole at last_end last_rule) result }
     ensures is { IfOk result (λ claim. claim ≡ claim_in bytes.now 0) }
     ensures ends { IfOk result (λ claim. claim.range.at + claim.range.len ≤ image_len) }
-    ensures calm { result ≢ Err JournalFault.Device }
+    ensures calm { IfErr result IsCalm }
 {
     let checks = range_checks(bytes, at, image_len, last_end, last_rule);
     match first_failing(&checks) {

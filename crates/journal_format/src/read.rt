@@ -7,7 +7,7 @@ ghost use Rattle.disk_defs.specs.declared.Area.TheVariants.{Journal};
 ghost use Rattle.journal_defs.specs.Form.{group_count};
 ghost use Rattle.journal_format.specs.Header.{IsHeader};
 ghost use Rattle.journal_format.specs.Parts.{IsPart};
-ghost use Rattle.journal_format.specs.Says.{Says, IsState, IsReadCounted};
+ghost use Rattle.journal_format.specs.Says.{IsCalm, Says, IsState, IsReadCounted};
 ghost use Rattle.journal_format.specs.declared.state.JournalState.{JournalState};
 ghost use Rattle.rx_ranges.specs.declared.plan.TheConstants.{MAX_LISTING_BYTES, MAX_RANGES};
 
@@ -43,7 +43,7 @@ fn open_header(header: &[u8], len: u64) -> Result<Header, JournalFault>
     ensures short { IfOk result (λ numbers. numbers.listing_len ≤ MAX_LISTING_BYTES) }
     ensures fits { IfOk result (λ numbers. 40 + 24 * numbers.ranges + numbers.listing_len + (group_count numbers.ranges + 1) ≡ len) }
     ensures fit { All (λ byte. byte < 256) header.now }
-    ensures calm { result ≢ Err JournalFault.Device }
+    ensures calm { IfErr result IsCalm }
 {
     if header[0] != OPEN_GATE {
         return Err(JournalFault::NotOpen);
@@ -51,7 +51,7 @@ fn open_header(header: &[u8], len: u64) -> Result<Header, JournalFault>
     checked_header(header, len)
 }
 
-/// What the journal of a store holds.
+/// What the journal of a store holds. Another length is never answered.
 pub fn read_journal<S: Store>(alloc: Global, store: &mut S) -> Result<JournalState, JournalFault>
     ensures told { IfSome (told_of Journal (S.state store.old)) (λ bytes. Says bytes result) }
     ensures state { IfOk result (IsState (size_of Journal (S.state store.old))) }
