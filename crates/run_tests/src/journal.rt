@@ -1,4 +1,4 @@
-//! The command `plan` calls the image ten times, and the journal never.
+//! The command `plan` makes ten calls on the store, and none on the journal.
 ghost use Rattle.std.specs.Prelude.{◌≡◌, ◌+◌, ◌≤◌, length, IfOk, OnOk};
 ghost use Rattle.disk_defs.specs.Disk.{size_of, ReadsFrom};
 ghost use Rattle.disk_defs.specs.Count.{IsCountedIn};
@@ -88,9 +88,9 @@ fn small_store(alloc: Global) -> Result<MemStore, AllocError> {
 }
 
 #[test]
-fn no_call_after_the_eleventh(rt: HostRuntime) -> Result<(), Fail> {
+fn no_call_after_the_tenth(rt: HostRuntime) -> Result<(), Fail> {
     let mut store = small_store(rt.alloc())?;
-    store.fail_at((12..40).collect(rt.alloc())?);
+    store.fail_at((11..40).collect(rt.alloc())?);
     let (status, text) = planned(rt.alloc(), &mut store)?;
     assert_eq!(rt; status, Status::Done);
     assert_eq!(rt; text.as_slice(), REPORT);

@@ -103,7 +103,7 @@ fn a_rule_that_settles_nothing_plans_nothing(rt: HostRuntime) -> Result<(), Fail
 fn each_call_that_fails_is_answered(rt: HostRuntime) -> Result<(), Fail> {
     let alloc = rt.alloc();
     let plan = ["plan", "IMAGE", "RULES"];
-    for call in 1..=11 {
+    for call in 1..=10 {
         let troubles = Troubles {
             store: Some(call),
             source: None,
