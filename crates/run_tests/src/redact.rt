@@ -1,6 +1,6 @@
 //! The commands `redact`, `resume` and `report` on the small image, one after the other.
 use crate::plan::{RULE, words_of};
-use crate::small_image::{FILE, put_inode, small_image};
+use crate::small_image::{FILE, put, put_inode, small_image};
 use redact_cmd::{JournalRefusal, PlanRefusal, Status, run};
 use rx_store::{MemSink, MemSource, MemStore};
 use std::alloc::{AllocError, Global};
@@ -75,6 +75,20 @@ fn the_small_image_is_redacted(rt: HostRuntime) -> Result<(), Fail> {
         assert_eq!(rt; text.as_slice(), DONE);
     }
     assert!(rt; store.image() == filled.as_slice());
+    assert_eq!(rt; store.journal(), FILLED.as_slice());
+    Ok(())
+}
+
+#[test]
+fn another_content_ends_alike(rt: HostRuntime) -> Result<(), Fail> {
+    let alloc = rt.alloc();
+    let mut image = small_image(alloc)?;
+    put(&mut image, 86_016, b"xyz");
+    let mut store = store_of(alloc, image, &[])?;
+    let (status, text) = ran(alloc, &REDACT, &mut store)?;
+    assert_eq!(rt; status, Status::Done);
+    assert_eq!(rt; text.as_slice(), DONE);
+    assert!(rt; store.image() == filled_image(alloc)?.as_slice());
     assert_eq!(rt; store.journal(), FILLED.as_slice());
     Ok(())
 }
