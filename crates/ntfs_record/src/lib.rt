@@ -9,14 +9,14 @@
 //!     for attribute in found.attrs() { /* attribute.kind, attribute.name, attribute.form */ }
 #![tactic(auto)]
 
-pub mod attr;
-pub mod attrs;
-pub(crate) mod ends;
-pub mod mend;
-pub mod record;
+mod attr;
+mod attrs;
+mod ends;
+mod mend;
+mod record;
 #[cfg(test)]
 mod tests;
-pub(crate) mod walk;
+mod walk;
 
 pub use attr::{Attr, Form};
 pub use attrs::Attrs;
