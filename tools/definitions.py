@@ -109,8 +109,8 @@ class Tree:
 
     def __init__(self):
         self.defs, self.imports, self.order = {}, {}, []
-        for folder in ("specs", "proofs"):
-            for path in sorted(TOP.glob(f"*/{folder}/**/*.antt")):
+        for directory in ("specs", "proofs"):
+            for path in sorted(TOP.glob(f"*/{directory}/**/*.antt")):
                 crate = path.relative_to(TOP).parts[0]
                 inside = path.relative_to(TOP / crate).with_suffix("").parts
                 module = ".".join(("Rattle", crate) + inside)

@@ -3,8 +3,8 @@
 
     python3 tools/real_files.py [PROGRAM]      PROGRAM is crates/dfredact/out/dfredact where none is given
 
-It makes the small image (tools/small_image.py) in a folder of its own and goes through plan, redact, report, resume, a journal
-of many windows and the refusals that come of files: a journal that is missing, a folder or the image itself under another name.
+It makes the small image (tools/small_image.py) in a directory of its own and goes through plan, redact, report, resume, a journal
+of many windows and the refusals that come of files: a journal that is missing, a directory or the image itself under another name.
 Where `strace` is there, it also sees by the system's calls that both files are synced where the order of a redaction says. Its
 last line is `N checks, all hold`, and it ends with status 1 where one doesn't.
 """
@@ -40,18 +40,18 @@ def see(what, holds):
 
 
 class Place:
-    """A folder with the small image and the rules."""
+    """A directory with the small image and the rules."""
 
-    def __init__(self, folder, program):
-        self.folder, self.program = pathlib.Path(folder), program
-        self.image, self.journal, self.rules = (self.folder / name for name in ("image", "journal", "rules"))
+    def __init__(self, directory, program):
+        self.directory, self.program = pathlib.Path(directory), program
+        self.image, self.journal, self.rules = (self.directory / name for name in ("image", "journal", "rules"))
         subprocess.run([sys.executable, TOP / "tools/small_image.py", self.image], check=True)
         self.old = self.image.read_bytes()
         self.filled = self.old[:86016] + b"XXX" + self.old[86019:]
         self.rules.write_bytes(RULES)
 
     def run(self, what, *words, code, out=b"", err=b"", before=()):
-        ran = subprocess.run([*before, self.program, *map(str, words)], cwd=self.folder, capture_output=True)
+        ran = subprocess.run([*before, self.program, *map(str, words)], cwd=self.directory, capture_output=True)
         see(f"{what}: status {code}", ran.returncode == code)
         see(f"{what}: output", ran.stdout == out)
         see(f"{what}: error", ran.stderr == err)
@@ -135,7 +135,7 @@ def one_file(at):
         see("the image is as it was", at.image.read_bytes() == at.old)
     at.journal.unlink()
     at.journal.mkdir()
-    at.run("the journal is a folder", "redact", "image", "journal", "rules", code=10, err=FAILED)
+    at.run("the journal is a directory", "redact", "image", "journal", "rules", code=10, err=FAILED)
     at.journal.rmdir()
     see("the image is as it was", at.image.read_bytes() == at.old)
     if os.geteuid() != 0:
@@ -181,19 +181,19 @@ def calls(log):
 def traced(at):
     at.image.write_bytes(at.old)
     at.journal.unlink(missing_ok=True)
-    log = at.folder / "log"
+    log = at.directory / "log"
     trace = ["strace", "-f", "-y", "-o", str(log), "-e", "trace=lseek,write,ftruncate,fsync"]
     at.run("redact, traced", "redact", "image", "journal", "rules", code=0, out=b"redaction done\n" + LINES, before=trace)
     at.holds("redact, traced", at.filled, JOURNAL)
     found = calls(log.read_text())
     see(f"the calls are in order: {found}", found == ORDER)
-    see("the journal's folder is synced", re.search(rf"fsync\(\d+<{re.escape(str(at.folder.resolve()))}>\) += 0", log.read_text()) is not None)
+    see("the journal's directory is synced", re.search(rf"fsync\(\d+<{re.escape(str(at.directory.resolve()))}>\) += 0", log.read_text()) is not None)
 
 
 def main():
     program = pathlib.Path(sys.argv[1] if len(sys.argv) > 1 else TOP / "crates/dfredact/out/dfredact").resolve()
-    with tempfile.TemporaryDirectory() as folder:
-        at = Place(folder, program)
+    with tempfile.TemporaryDirectory() as directory:
+        at = Place(directory, program)
         for part in (commands, stopped, long_journal, one_file):
             part(at)
         if shutil.which("strace"):

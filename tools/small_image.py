@@ -3,7 +3,7 @@
 
     python3 tools/small_image.py FILE
 
-The image has 262,144 bytes: a superblock, the root folder and one file `/a` with the content `abc`.
+The image has 262,144 bytes: a superblock, the root directory and one file `/a` with the content `abc`.
 """
 import struct
 import sys

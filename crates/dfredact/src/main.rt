@@ -1,14 +1,14 @@
-//! dfredact: makes an inventory of a raw disk image, and erases from it what rules select.
+//! dfredact: reports which bytes of a raw disk image rules select, and erases them.
+//!
+//! main opens the files that the words name and calls `run` of `redact_cmd` over them and standard output. The image is opened
+//! for writing by `redact` and `resume` alone, and `redact` makes the journal's file where there is none, and syncs the directory
+//! that it stands in. main writes the line of the status to standard error and ends with the status' number. A file that can't be
+//! opened is handed in as a store or a source whose calls fail, so `run` answers for it.
 //!
 //!     dfredact plan IMAGE RULES
 //!     dfredact redact IMAGE JOURNAL RULES
 //!     dfredact resume IMAGE JOURNAL
 //!     dfredact report JOURNAL
-//!
-//! main opens the files that the words name and calls `run` of `redact_cmd` over them and standard output. The image is opened for
-//! writing by `redact` and `resume` alone, and `redact` makes the journal's file where there is none, and syncs its folder. main writes the line of the
-//! status to standard error and ends with the status' number. A file that can't be opened is handed in as a store or a source
-//! whose calls fail, so `run` answers for it.
 #![tactic(auto)]
 
 use redact_cmd::{Command, Status, parse_words, run, write_status};
@@ -84,11 +84,11 @@ fn files_of(words: &[String]) -> Named<'_> {
 /// Makes a file, and waits until its name is on the disk too.
 fn made(rt: &impl Files<File = File>, path: &str) -> io::Result<File> {
     let file = File::create_new(rt, path)?;
-    let folder = match Path::new(path).parent() {
-        Some(folder) if folder != Path::new("") => File::open(rt, folder)?,
+    let directory = match Path::new(path).parent() {
+        Some(directory) if directory != Path::new("") => File::open(rt, directory)?,
         _ => File::open(rt, ".")?,
     };
-    folder.sync_all()?;
+    directory.sync_all()?;
     Ok(file)
 }
 

@@ -11,7 +11,7 @@ ghost use Rattle.piece_defs.specs.Places.{bytes_through, AreWithin};
 ghost use Rattle.rx_store.specs.ReadFaults.{IsReadCounted};
 
 use bytes_defs::Order::Big;
-use bytes_defs::field::{u16_at, u32_at};
+use bytes_defs::{u16_at, u32_at};
 use piece_reads::read_pieces;
 use rx_ranges::Piece;
 use rx_store::{ReadFault, Sort, Store};

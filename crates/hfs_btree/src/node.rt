@@ -3,7 +3,7 @@ ghost use Rattle.std.specs.Prelude.{◌≡◌, ◌+◌, ◌*◌, ◌<◌, ◌≤
 ghost use Rattle.hfs_defs.specs.Nodes as spec;
 
 use bytes_defs::Order::Big;
-use bytes_defs::field::{u16_at, u32_at};
+use bytes_defs::{u16_at, u32_at};
 
 /// Whether a node is a leaf.
 pub(crate) fn is_leaf(node: &[u8]) -> bool

@@ -3,7 +3,7 @@ ghost use Rattle.std.specs.Prelude.{◌≡◌, ◌⊎◌, ◌+◌, ◌≤◌, If
 
 use crate::forks::{Extent, Fork};
 use bytes_defs::Order::Big;
-use bytes_defs::field::{u16_at, u32_at, u64_at};
+use bytes_defs::{u16_at, u32_at, u64_at};
 
 /// A volume of `len` bytes from byte `at` of the image on, and the fields of its header that are read.
 #[derive(Clone, Copy, Debug, PartialEq, Eq)]

@@ -5,8 +5,7 @@ ghost use Rattle.hfs_defs.specs.Forks.{written_from, follow_on, written_extents}
 ghost use Rattle.hfs_extents.specs.Extents.{AreNear};
 
 use fault_defs::{Refusal, Sort};
-use hfs_defs::forks::{Extent, Fork, OverflowRecord};
-use hfs_defs::header::Header;
+use hfs_defs::{Extent, Fork, Header, OverflowRecord};
 
 /// The blocks of at most eight extents together.
 pub(crate) fn blocks_in(extents: &[Extent]) -> u64

@@ -11,8 +11,7 @@ ghost use Rattle.rx_store.specs.Answers.{Answers};
 
 use crate::extents::fork_fault;
 use crate::pieces::{pieces_of, slack_of};
-use hfs_defs::forks::{Extent, Fork, OverflowRecord};
-use hfs_defs::header::Header;
+use hfs_defs::{Extent, Fork, Header, OverflowRecord};
 use rx_ranges::{Pieces, RangeList};
 use rx_store::ReadFault;
 use std::alloc::{AllocError, Global};

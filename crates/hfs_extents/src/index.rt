@@ -5,7 +5,7 @@ ghost use Rattle.std.specs.List.Sorted.{IsNonDecreasingBy};
 ghost use Rattle.hfs_defs.specs.Forks as spec;
 ghost use Rattle.hfs_extents.specs.Index.{entries_by_file};
 
-use hfs_defs::forks::OverflowRecord;
+use hfs_defs::OverflowRecord;
 use std::alloc::{AllocError, Global};
 
 /// The file of an overflow record, and the record's number in the order of the leaf records.

@@ -6,8 +6,7 @@ ghost use Rattle.hfs_extents.specs.Extents.{EndsIn, EndsBy, LiesInImage, put_som
 ghost use Rattle.piece_defs.specs.Places.{AreWithin};
 ghost use Rattle.range_defs.specs.declared.TheConstants.{LONGEST_IMAGE};
 
-use hfs_defs::forks::Extent;
-use hfs_defs::header::Header;
+use hfs_defs::{Extent, Header};
 use piece_reads::put;
 use range_defs::Range;
 use rx_ranges::{Piece, PieceKind, Pieces, RangeList};

@@ -14,9 +14,9 @@ ghost use Rattle.rx_store.specs.Answers.{Answers};
 ghost use Rattle.rx_store.specs.ReadFaults.{IsReadCounted};
 
 use bytes_defs::Order::Big;
-use bytes_defs::field::{u16_at, u32_at};
+use bytes_defs::{u16_at, u32_at};
 use hfs_btree::{LeafRecord, Leaves};
-use hfs_defs::forks::{Extent, OverflowRecord};
+use hfs_defs::{Extent, OverflowRecord};
 use range_defs::LONGEST_IMAGE;
 use rx_ranges::Items;
 use rx_store::{ReadFault, Sort, Store};

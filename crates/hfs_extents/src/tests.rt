@@ -5,8 +5,7 @@ ghost use Rattle.disk_defs.specs.Memory.{held_in_memory};
 
 use crate::fork::ForkRuns;
 use crate::overflow::{Overflow, fork_pieces};
-use hfs_defs::forks::{Extent, Fork};
-use hfs_defs::header::Header;
+use hfs_defs::{Extent, Fork, Header};
 use range_defs::Range;
 use rx_ranges::{Piece, PieceKind};
 use rx_store::{MemStore, ReadFault, Sort, What};

@@ -1,8 +1,8 @@
 //! Reads the header of an HFS+ volume.
 //!
-//! It stands at byte 1,024 of the volume (TN1150, "Volume Header"). `read_header` answers its fields, or NotThis where signature and
-//! version don't fit, or Damaged(HeaderField) at the size of a block, at the number of blocks, or at the signature of a volume
-//! below 2,560 bytes. It takes no memory.
+//! It stands at byte 1,024 of the volume (TN1150, "Volume Header"). `read_header` answers its fields, or NotThis where signature
+//! and version don't fit, or Damaged(HeaderField) at the size of a block, at the number of blocks, or at the signature of a
+//! volume below 2,560 bytes. It takes no memory.
 //!
 //!     let header = read_header(&mut store, 0, len)?;
 //!     header.block_size       // a power of two of at least 512
@@ -20,8 +20,8 @@ ghost use Rattle.image_defs.specs.Ask.{result_of};
 ghost use Rattle.rx_store.specs.Answers.{Answers};
 ghost use Rattle.rx_store.specs.ReadFaults.{IsReadCounted};
 
-pub use hfs_defs::forks::{Extent, Fork};
-pub use hfs_defs::header::Header;
+pub use hfs_defs::{Extent, Fork};
+pub use hfs_defs::Header;
 use rx_store::{Area, Fault, ReadFault, Sort, Store};
 
 /// The bytes of the image from a place on, a fixed number of them.

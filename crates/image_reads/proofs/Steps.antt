@@ -13,7 +13,6 @@ use Rattle.rx_store.specs.declared.read_fault.ReadFault.{ReadFault}
 use Rattle.rx_store.specs.declared.read_fault.ReadFault.TheVariants.{Device, NoMemory, NotThis, Damaged, Unsupported, Limit}
 use Rattle.rx_store.specs.Answers.{Answers}
 use Rattle.rx_store.specs.ReadFaults.{fault_of}
-use Rattle.image_defs.specs.Runs.{with_value}
 use Rattle.image_reads.specs.Steps.{ReadsAs, IsNoRefusal, EndBy, KeptWithin}
 
 -- a fault says of a program what it says of another that stops with the same refusals
@@ -119,11 +118,6 @@ module _ {Y : Type 0} (told : Option (List ℕ)) (whole : Ask Refusal Y) (before
   nothing_says looked (Damaged sort place) none = absurd none
   nothing_says looked (Unsupported what place) none = absurd none
   nothing_says looked (Limit bound number) none = absurd none
-
-  -- such a fault ends a call whose value is seen as another
-  pub nothing_ends : {Z : Type 0} (looked : List Range) (seen : Z → Y) (result : Result Z ReadFault) (fault : ReadFault) → IsErr result → IsErrAnd result (λ other. other ≡ fault) → IsNoRefusal fault → ReadsAs told whole before looked (with_value seen result)
-  nothing_ends looked seen (Ok z) fault is passed none = absurd cc
-  nothing_ends looked seen (Err other) fault is passed none = nothing_says looked other (subst IsNoRefusal (sym passed) none)
 
 -- one more range that ends in time
 pub kept_one : (last : ℕ) (before after : List Range) (at len : ℕ) → at + len ≤ last → after ≡ before ++ record { at = at; len = len } ∷ [] → KeptWithin last before after

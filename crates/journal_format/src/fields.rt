@@ -7,8 +7,7 @@ ghost use Rattle.journal_defs.specs.Form.{group_count};
 ghost use Rattle.journal_defs.specs.Reading.{claim_in};
 ghost use Rattle.journal_format.specs.Header.{header_in};
 
-use bytes_defs::Order;
-use bytes_defs::field::{u32_at, u64_at};
+use bytes_defs::{Order, u32_at, u64_at};
 use journal_defs::{HEADER_LEN, RANGE_LEN};
 use range_defs::{Claim, LONGEST_IMAGE, Range};
 use rx_ranges::{MAX_LISTED, MAX_LISTING_BYTES, MAX_RANGES, MAX_RULE};

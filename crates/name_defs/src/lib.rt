@@ -4,9 +4,9 @@
 //! doubled; control characters and a slash are `\xHH`, a byte at which no UTF-8 begins too; a lone surrogate, U+FFFE and U+FFFF
 //! are `\uHHHH`. Digits are upper case. Valid UTF-8 is that of the Unicode Standard, section 3.9.
 //!
-//!     the bytes 61 FF 5C 0A print as  a\xFF\\\x0A
-//!
 //! The promised laws: each stored name has a spelling of its own, and a printed name has no control character and no slash.
+//!
+//!     the bytes 61 FF 5C 0A print as  a\xFF\\\x0A
 #![tactic(auto)]
 
 ghost use Rattle.std.specs.Prelude.{◌≡◌, ◌<◌, ◌≤◌, ◌^◌, ◌++◌, [], ◌∷◌, false, ℕ, List, All, encode_utf8};

@@ -4,10 +4,9 @@ ghost use Rattle.ntfs_volume_defs.specs.Boot as spec;
 ghost use Rattle.ntfs_volume_defs.specs.Boot.{is_one_of, size_of_record, sectors_in_cluster, record_size_of};
 ghost use Rattle.ntfs_boot.specs.Sector.{sector_sizes, cluster_counts, record_sizes, placed_boot, sector_boot};
 
-use bytes_defs::Order;
-use bytes_defs::field::{u16_at, u64_at};
+use bytes_defs::{Order, u16_at, u64_at};
 use fault_defs::{Refusal, Sort, What};
-use ntfs_volume_defs::boot::Boot;
+use ntfs_volume_defs::Boot;
 
 /// `NTFS` with its four blanks, and the two bytes that end a boot sector.
 #[tactic(auto, unfolding(bytes_defs::specs::Bytes::part))]

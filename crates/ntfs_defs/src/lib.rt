@@ -4,12 +4,15 @@
 //! follow it, the high half that of offset bytes; the length is unsigned, the offset is signed and relative to the last run
 //! that had one; no offset is a hole; a header of 0 ends the list.
 //!
-//!     21 18 34 56 00    0x18 clusters from cluster 0x5634 on
-//!
 //! The promised laws of `laws`: the runs have each virtual cluster where the list puts it, lengths sum up, each cluster lies on
 //! the volume, and the damage that is told is the first.
+//!
+//!     21 18 34 56 00    0x18 clusters from cluster 0x5634 on
 #![tactic(auto)]
 
-pub mod fault;
+mod fault;
 pub mod laws;
-pub mod runs;
+mod runs;
+
+pub use fault::RunFault;
+pub use runs::{Run, WrittenRun};

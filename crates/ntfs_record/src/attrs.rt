@@ -7,9 +7,8 @@ ghost use Rattle.ntfs_record.specs.Mending.{attributes_check};
 
 use crate::attr::Attr;
 use crate::walk::next_attribute;
-use bytes_defs::Order;
-use bytes_defs::field::{u16_at, u32_at};
-use ntfs_record_defs::fault::RecordFault;
+use bytes_defs::{Order, u16_at, u32_at};
+use ntfs_record_defs::RecordFault;
 use std::marker::Model;
 
 /// The attributes of a record that are left.

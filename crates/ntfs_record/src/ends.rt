@@ -5,9 +5,8 @@ ghost use Rattle.ntfs_record_defs.specs.Record.{header_of};
 ghost use Rattle.ntfs_record.specs.Mending.{ends_check, filled, stored_check};
 
 use crate::walk::part_of;
-use bytes_defs::Order;
-use bytes_defs::field::u16_at;
-use ntfs_record_defs::fault::RecordFault;
+use bytes_defs::{Order, u16_at};
+use ntfs_record_defs::RecordFault;
 
 /// The bytes of a stride.
 const STRIDE: usize = 512;

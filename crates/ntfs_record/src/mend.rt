@@ -7,9 +7,8 @@ ghost use Rattle.ntfs_record.specs.Mending.{header_check, sizes_check, stored_ch
 use crate::attrs::check_attributes;
 use crate::ends::{check_ends, put_check_numbers, put_true_ends};
 use crate::walk::part_of;
-use bytes_defs::Order;
-use bytes_defs::field::{u16_at, u32_at};
-use ntfs_record_defs::fault::RecordFault;
+use bytes_defs::{Order, u16_at, u32_at};
+use ntfs_record_defs::RecordFault;
 
 /// A record has to begin with `FILE`, and its array has to have an entry for each stride and one for the check number,
 /// and to stand behind the header, at an even place, and in front of the first bytes that are replaced.

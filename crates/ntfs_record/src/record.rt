@@ -8,9 +8,8 @@ ghost use Rattle.ntfs_record_defs.specs.Lent.{lent_attributes, AreApart, IsRecor
 
 use crate::attrs::Attrs;
 use crate::mend::mend_bytes;
-use bytes_defs::Order;
-use bytes_defs::field::{u16_at, u64_at};
-use ntfs_record_defs::fault::RecordFault;
+use bytes_defs::{Order, u16_at, u64_at};
+use ntfs_record_defs::RecordFault;
 use std::marker::Model;
 
 /// A record whose true bytes stand in place.

@@ -8,9 +8,8 @@ ghost use Rattle.ntfs_record_defs.specs.Lent.{lent_with, lent_at, lent_next};
 ghost use Rattle.ntfs_record.specs.Seen.{form_seen, form_given};
 
 use crate::attr::{Attr, Form};
-use bytes_defs::Order;
-use bytes_defs::field::{u16_at, u32_at, u64_at};
-use ntfs_record_defs::fault::RecordFault;
+use bytes_defs::{Order, u16_at, u32_at, u64_at};
+use ntfs_record_defs::RecordFault;
 
 /// The type that ends the attributes.
 const END: u32 = 0xFFFF_FFFF;

@@ -5,7 +5,7 @@ ghost use Rattle.ntfs_defs.specs.DecodedRuns.{decoded_runs};
 
 use crate::runs::Runs;
 use crate::written::{checked_run, run_at};
-use ntfs_defs::fault::RunFault;
+use ntfs_defs::RunFault;
 use std::alloc::Global;
 
 /// The runs that a run list says, on a volume of so many clusters.

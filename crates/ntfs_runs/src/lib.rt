@@ -1,7 +1,7 @@
 //! Run lists: where the clusters of an attribute stand.
 //!
-//! A run list (the mapping pairs of a non-resident ATTRIBUTE_RECORD_HEADER) is a list of runs, each with a header byte that says how
-//! many bytes its length and its offset have; the offset is signed and counts from the cluster of the run in front, and a run
+//! A run list (the mapping pairs of a non-resident ATTRIBUTE_RECORD_HEADER) is a list of runs, each with a header byte that says
+//! how many bytes its length and its offset have; the offset is signed and counts from the cluster of the run in front, and a run
 //! without one is a hole. `decode_runs` answers the runs: how many clusters each has, and the first of them, which is None for a
 //! hole; or the first check that fails, at the header byte of that run.
 //!
@@ -15,6 +15,6 @@ mod tests;
 pub(crate) mod written;
 
 pub use decode::decode_runs;
-pub use ntfs_defs::fault::RunFault;
-pub use ntfs_defs::runs::Run;
+pub use ntfs_defs::RunFault;
+pub use ntfs_defs::Run;
 pub use runs::Runs;

@@ -1,7 +1,7 @@
 //! A list of runs.
 ghost use Rattle.std.specs.Prelude.{◌≡◌};
 
-use ntfs_defs::runs::Run;
+use ntfs_defs::Run;
 use std::marker::Model;
 
 /// The runs of an attribute, in the order of its virtual clusters.

@@ -6,8 +6,7 @@ ghost use Rattle.ntfs_defs.specs.DecodedRuns as decoded_runs_spec;
 ghost use Rattle.ntfs_defs.specs.DecodedRuns.{begin_of};
 
 use byteorder::{ByteOrder, LittleEndian};
-use ntfs_defs::fault::RunFault;
-use ntfs_defs::runs::{Run, WrittenRun};
+use ntfs_defs::{Run, RunFault, WrittenRun};
 
 /// The runs of one list have at most so many clusters together.
 const MOST_CLUSTERS: u64 = 1 << 48;

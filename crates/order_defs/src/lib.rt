@@ -6,6 +6,8 @@
 //!
 //! The promised laws are the contracts of the functions of `laws`, whose bodies are empty: there is one such list, and it
 //! has the same items.
+//!
+//!     rising_numbers (3 ∷ 1 ∷ 3 ∷ []) ≡ 1 ∷ 3 ∷ []
 #![tactic(auto)]
 
 pub mod laws;

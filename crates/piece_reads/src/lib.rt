@@ -1,10 +1,12 @@
 //! Reads through the pieces of a file, and makes them.
 //!
-//! `read_pieces` reads a range of a content: its bytes on the disk from the image, and those of a hole as zeros, in one read for each
-//! piece that the range meets. `put` adds a piece behind others, so that each is as long as possible.
+//! `read_pieces` reads a range of a content: its bytes on the disk from the image, and those of a hole as zeros, in one read for
+//! each piece on the disk that the range meets. It takes no memory. `put` adds a piece behind others, so that each is as long as
+//! possible.
 //!
-//!     put(&mut pieces, piece)?;
-//!     read_pieces(&mut store, &pieces, size, from, &mut buffer)?;
+//!     // the content "cde", two bytes of a hole and "ab", in three pieces over the image "abcdef"
+//!     read_pieces(&mut store, &pieces, 7, 1, &mut buffer)?;     // the five bytes from byte 1 on: "de", two zeros and "a"
+//!     put(&mut pieces, piece)?;                                 // the last piece grows where this one goes on
 #![tactic(auto)]
 
 ghost use Rattle.std.specs.Prelude.{◌≡◌, ◌+◌, ◌≤◌, length, OnOk, IfSome};

@@ -1,4 +1,3 @@
-pub mod Lines
 pub mod Says
 pub mod Kept
 pub mod Resuming

@@ -19,8 +19,8 @@ use crate::plan_command::plan;
 use crate::redact_command::redact;
 use crate::report_command::report;
 use crate::resume_command::resume;
-use crate::words::parse_words;
 use cmd_defs::{Command, Status};
+use cmd_words::parse_words;
 use rx_store::{Sink, Source, Store};
 use std::alloc::Global;
 

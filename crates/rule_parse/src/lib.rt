@@ -1,8 +1,12 @@
 //! Reads the rule text.
 //!
-//! The text is read to its end. It is in the first form or in another one, which is told exactly where it is so.
+//! What a text says is defined in `rule_defs` (`Reads`): in the first form it is one line that says one rule. Such a text is read
+//! to its end. A text that says no rules is refused as OtherForm, and that comes for no other text; Source comes only where the
+//! source failed, and NoMemory where memory ran out.
 //!
+//!     // the text FILENAME "a.b" FILL 0x5F
 //!     let rules = read_rules(alloc, &mut source)?;
+//!     rules.items()[0]        // rule 1: the files with the name a.b are filled with 0x5F
 #![tactic(auto)]
 
 ghost use Rattle.std.specs.Prelude.{◌≡◌, ◌⊎◌, [], Err, IfOk, IfSome, IsErrOf, OnOk};

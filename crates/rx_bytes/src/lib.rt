@@ -19,7 +19,7 @@ ghost use Rattle.bytes_defs.specs.Numbers.{little_at, little_signed_at, big_at};
 mod tests;
 
 use bytes_defs::Order::{Big, Little};
-use bytes_defs::field::{i32_at, i64_at, u16_at, u32_at, u64_at};
+use bytes_defs::{i32_at, i64_at, u16_at, u32_at, u64_at};
 use std::marker::Model;
 
 /// A slice of bytes whose fields are read at places. It lends the slice and copies nothing.

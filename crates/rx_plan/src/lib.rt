@@ -4,7 +4,9 @@
 //! listing. A plan that would fill a byte of the guard is refused with the least such byte and its rule, and then one that has
 //! more than 1,000,000 ranges: a journal can hold each plan that is made.
 //!
+//!     // rule 1 settles a file that has bytes 8 to 13, and rule 2 one that has bytes 12 to 15
 //!     let plan = make_plan(alloc, &mut store, &tree, &rules)?;
+//!     plan.ranges.items()     // 8 to 13 by rule 1, 14 and 15 by rule 2
 #![tactic(auto)]
 
 ghost use Rattle.std.specs.Prelude.{◌≡◌, ◌&&◌, ℕ, Some, None, IfOk, IfSome, IsErrOf, OnOk, is_some};

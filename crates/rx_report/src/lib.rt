@@ -1,8 +1,11 @@
 //! Writes the report of a plan.
 //!
-//! The report is written in pieces of some thousand bytes, in order. After a fault of the sink some first bytes of it were taken.
+//! The text is `report` of `text_defs`: four lines on the whole plan, a line for each range, and a line for each listed name. It
+//! is written in order, the lines of ranges sixty at a time, and takes no memory. After a fault of the sink some first bytes of
+//! it were taken.
 //!
 //!     write_report(&mut sink, &plan, ReportState::Planned)?;
+//!     // "redaction planned", "image 262144", "ranges 1", "bytes 3", "RANGE 86016 3 1 0x58", "FILE 1 /a"
 #![tactic(auto)]
 
 ghost use Rattle.std.specs.Prelude.{◌≡◌, OnOk, OnErr};

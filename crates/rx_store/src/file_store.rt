@@ -24,7 +24,7 @@ pub enum Opened {
     Open(File),
 }
 
-/// The size of a file or a device, found by a seek to its end. A folder has none.
+/// The size of a file or a device, found by a seek to its end. A directory has none.
 fn measure(file: &mut File) -> io::Result<u64> {
     if file.metadata()?.is_dir() {
         return Err(io::Error::from(ErrorKind::IsADirectory));

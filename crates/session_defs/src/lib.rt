@@ -1,11 +1,11 @@
 //! The calls that carry out a plan, one a turn, and what they leave.
 //!
-//! A plan is carried out through its journal. `script plan` is the list of all calls on the store: the journal is cut, written with
-//! a closed gate, and opened once it is on the disk; then each group of 64 ranges is filled, synced and marked, and at the end the
-//! last mark is set. `rest_of plan groups last` are the calls that are left where a journal was found open with some marks: those
-//! of the groups that aren't marked, and the last ones. A write has at most 65,536 bytes. The promised laws (`laws`) say what
-//! both areas hold when all calls were made, and that a call writes to the image only once the journal is open, and only the fill of
-//! planned ranges.
+//! A plan is carried out through its journal. `script plan` is the list of all calls on the store: the journal is cut, written
+//! with a closed gate, and opened once it is on the disk; then each group of 64 ranges is filled, synced and marked, and at the
+//! end the last mark is set. `rest_of plan groups last` are the calls that are left where a journal was found open with some
+//! marks: those of the groups that aren't marked, and the last ones. A write has at most 65,536 bytes. The promised laws (`laws`)
+//! say what both areas hold when all calls were made, and that a call writes to the image only once the journal is open, and only
+//! the fill of planned ranges.
 //!
 //!     cut 0 · sync · write gate 0x00 · sync · write the rest · sync · write gate 0x4F · sync
 //!     for each group: write each range · sync · write its mark

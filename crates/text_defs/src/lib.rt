@@ -1,7 +1,7 @@
 //! The texts that the program writes.
 //!
-//! `report plan state` is the text of a report: four lines on the whole, a line for each planned range, and a line for each listed
-//! name. Numbers are decimal, and the byte with which a range is filled is in two upper-case hexadecimal digits.
+//! `report plan state` is the text of a report: four lines on the whole, a line for each planned range, and a line for each
+//! listed name. Numbers are decimal, and the byte with which a range is filled is in two upper-case hexadecimal digits.
 //!
 //!     redaction planned
 //!     image 262144

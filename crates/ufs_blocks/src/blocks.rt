@@ -19,8 +19,7 @@ use rx_store::{Area, Bound, ReadFault, Store};
 use rx_tree::Parts;
 use std::alloc::Global;
 use std::marker::Model;
-use ufs_inode_defs::inode::Inode;
-use ufs_inode_defs::superblock::Super;
+use ufs_inode_defs::{Inode, Super};
 
 /// The parts of an inode, and the bytes of the blocks of pointers that lead to its blocks.
 #[derive(Debug, Drop)]

@@ -30,8 +30,7 @@ use rx_ranges::{Pieces, RangeList, Text};
 use rx_store::{ReadFault, Store};
 use rx_tree::{Part, Role};
 use std::alloc::{AllocError, Global};
-use ufs_inode_defs::inode::Inode;
-use ufs_inode_defs::superblock::Super;
+use ufs_inode_defs::{Inode, Super};
 
 /// The bits of the mode that say what a file is.
 fn type_bits(inode: &Inode) -> u16

@@ -14,8 +14,8 @@ use range_defs::Range;
 use rx_ranges::{Piece, PieceKind};
 use rx_store::{Bound, ReadFault, Sort};
 use std::alloc::AllocError;
-use ufs_inode_defs::superblock::Super;
-use ufs_super::sizes::{allocated_len, block_count, block_size, content_len, fragment_size};
+use ufs_inode_defs::Super;
+use ufs_super::{allocated_len, block_count, block_size, content_len, fragment_size};
 
 /// The most runs of a volume.
 pub(crate) const MOST_RUNS: u64 = 4_000_000;

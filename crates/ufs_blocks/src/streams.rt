@@ -29,9 +29,8 @@ use crate::walk::{direct_block, mapped_blocks};
 use range_defs::Range;
 use rx_store::{ReadFault, Store};
 use std::alloc::Global;
-use ufs_inode_defs::inode::Inode;
-use ufs_inode_defs::superblock::Super;
-use ufs_super::sizes::pointer_len;
+use ufs_inode_defs::{Inode, Super};
+use ufs_super::pointer_len;
 
 /// Nothing yet, where so many runs were counted before.
 fn none_laid(alloc: Global, before: u64) -> Laid

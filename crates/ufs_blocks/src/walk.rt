@@ -16,13 +16,13 @@ ghost use Rattle.ufs_inode_defs.specs.Superblock.{wrong_field};
 
 use crate::laid::{Laid, Pointer};
 use crate::step::{counted_runs, led, with_block, with_hole, with_visit};
-use bytes_defs::field::{i32_at, i64_at};
+use bytes_defs::{i32_at, i64_at};
 use image_reads::bytes_at;
 use range_defs::Range;
 use rx_store::{ReadFault, Store};
 use std::alloc::Global;
-use ufs_inode_defs::superblock::Super;
-use ufs_super::sizes::{allocated_len, block_count, block_size, pointer_len, span};
+use ufs_inode_defs::Super;
+use ufs_super::{allocated_len, block_count, block_size, pointer_len, span};
 
 /// What a direct pointer maps: a block.
 pub(crate) fn direct_block(

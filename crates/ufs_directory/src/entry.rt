@@ -4,8 +4,7 @@ ghost use Rattle.ufs_volume_defs.specs.Directory as spec;
 ghost use Rattle.ufs_volume_defs.specs.Directory.{entry_of};
 ghost use Rattle.bytes_defs.specs.Bytes.{part};
 
-use bytes_defs::Order;
-use bytes_defs::field::{u16_at, u32_at};
+use bytes_defs::{Order, u16_at, u32_at};
 use std::marker::Model;
 
 /// An entry: its place in the bytes of the block, the inode that it names, its length in bytes, and its name.

@@ -10,8 +10,7 @@ use crate::group::Group;
 use rx_ranges::Text;
 use rx_time::Moment;
 use rx_tree::{FileEntry, FileId, Kind, Names, Part, Parts, Times};
-use ufs_inode_defs::inode::Inode;
-use ufs_inode_defs::superblock::Super;
+use ufs_inode_defs::{Inode, Super};
 
 /// What a file is, by the bits IFMT of its mode.
 fn kind_of(inode: &Inode) -> Kind

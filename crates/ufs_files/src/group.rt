@@ -6,7 +6,7 @@ use crate::rest::Rest;
 use rx_ranges::{NoMemory, Text};
 use std::alloc::Global;
 use std::marker::Model;
-use ufs_inode_defs::inode::Inode;
+use ufs_inode_defs::Inode;
 use ufs_names::Name;
 
 /// The number of an inode, the inode, and its paths.

@@ -25,8 +25,7 @@ use rx_tree::FileEntry;
 use std::alloc::{AllocError, Global};
 use std::marker::Model;
 use ufs_blocks::{Parted, inode_parts};
-use ufs_inode_defs::inode::Inode;
-use ufs_inode_defs::superblock::Super;
+use ufs_inode_defs::{Inode, Super};
 use ufs_names::Name;
 use ufs_super::inode_len;
 

@@ -10,7 +10,7 @@ use range_defs::Range;
 use rx_ranges::{NoMemory, RangeList};
 use rx_tree::{Files, FsKind, Tree, Volume, Volumes};
 use std::alloc::Global;
-use ufs_inode_defs::superblock::Super;
+use ufs_inode_defs::Super;
 
 /// The file system of a version.
 fn kind_of(version: u8) -> FsKind

@@ -18,7 +18,7 @@ use rx_store::{Area, Bound, ReadFault, Store};
 use rx_tree::{Files, Tree};
 use std::alloc::Global;
 use std::marker::Model;
-use ufs_inode_defs::superblock::Super;
+use ufs_inode_defs::Super;
 use ufs_names::read_names;
 use ufs_super::{look_for_super, read_super};
 

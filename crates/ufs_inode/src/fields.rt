@@ -5,9 +5,8 @@ ghost use Rattle.bytes_defs.specs.Numbers.{signed_at};
 ghost use Rattle.ufs_inode_defs.specs.Inode.{inode_1, inode_2};
 ghost use Rattle.ufs_inode_defs.specs.Numbers.{signed_fields};
 
-use bytes_defs::Order;
-use bytes_defs::field::{i32_at, i64_at, u16_at, u32_at, u64_at};
-use ufs_inode_defs::inode::Inode;
+use bytes_defs::{Order, i32_at, i64_at, u16_at, u32_at, u64_at};
+use ufs_inode_defs::Inode;
 
 /// The `i32` at a place, as an `i64`.
 fn short_at(order: Order, bytes: &[u8], at: usize) -> i64

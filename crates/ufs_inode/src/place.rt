@@ -4,8 +4,8 @@ ghost use Rattle.ufs_inode_defs.specs.Layout.{layout_of};
 ghost use Rattle.ufs_inode_defs.specs.Superblock as spec;
 ghost use Rattle.ufs_inode_defs.specs.Superblock.{wrong_field};
 
-use ufs_inode_defs::superblock::Super;
-use ufs_super::{fragment_size, inode_len, non_negative};
+use ufs_inode_defs::Super;
+use ufs_super::{inode_len, non_negative, stated_fragment_size};
 
 /// The product of two counts.
 fn product(a: u32, b: u32) -> u64
@@ -62,7 +62,7 @@ pub(crate) fn inode_place(sup: &Super, number: u32) -> u128
     let blocks = product(non_negative(sup.frag), number % sup.ipg / sup.inopb);
     let fragment = group + u128::from(non_negative(sup.iblkno)) + u128::from(blocks);
     u128::from(sup.at)
-        + scaled(fragment, fragment_size(sup))
+        + scaled(fragment, stated_fragment_size(sup))
         + u128::from(bytes_in_front(sup, number))
 }
 

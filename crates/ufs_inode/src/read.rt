@@ -20,9 +20,8 @@ use crate::place::{bytes_in_front, has_inode, inode_place};
 use crate::tested::tested;
 use range_defs::Range;
 use rx_store::{Fault, ReadFault, Sort, Store};
-use ufs_inode_defs::inode::Inode;
-use ufs_inode_defs::superblock::Super;
-use ufs_super::{block_size, inode_len, read_bytes};
+use ufs_inode_defs::{Inode, Super};
+use ufs_super::{inode_len, read_bytes, stated_block_size};
 
 /// The inode that stands at a place, sound or not.
 fn stored_inode<S: Store>(store: &mut S, sup: &Super, at: u64) -> Result<Inode, Fault>
@@ -106,7 +105,7 @@ fn hold_inode<S: Store>(
         return Ok(());
     }
     let begin = at - bytes_in_front(sup, number);
-    let len = u64::from(block_size(sup)).min(sup.at + sup.len - begin);
+    let len = u64::from(stated_block_size(sup)).min(sup.at + sup.len - begin);
     block.read(store, begin, len as usize)
 }
 

@@ -6,9 +6,8 @@ ghost use Rattle.ufs_inode_defs.specs.Inode as spec;
 ghost use Rattle.ufs_inode_defs.specs.Inode.{sound_inode, tested_inode};
 
 use rx_store::{ReadFault, Sort, What};
-use ufs_inode_defs::inode::Inode;
-use ufs_inode_defs::superblock::Super;
-use ufs_super::block_size;
+use ufs_inode_defs::{Inode, Super};
+use ufs_super::stated_block_size;
 
 /// Whether an inode is a snapshot: the flag `SF_SNAPSHOT` of sys/stat.h.
 fn is_snapshot(inode: &Inode) -> bool
@@ -29,7 +28,7 @@ fn reach_of(block: u32, pointers: u32) -> u128
 fn reach(sup: &Super) -> u128
     ensures { result ≡ spec.reach sup.now }
 {
-    reach_of(block_size(sup), sup.nindir)
+    reach_of(stated_block_size(sup), sup.nindir)
 }
 
 /// Whether an inode's content is longer than 2^62 bytes or than its pointers reach.
@@ -43,7 +42,7 @@ fn is_too_long(sup: &Super, inode: &Inode) -> bool
 fn is_ext_too_long(sup: &Super, inode: &Inode) -> bool
     ensures { result ≡ spec.is_ext_too_long sup.now inode.now }
 {
-    u64::from(inode.extsize) > 2 * u64::from(block_size(sup))
+    u64::from(inode.extsize) > 2 * u64::from(stated_block_size(sup))
 }
 
 /// The place of an inode's size in the image.

@@ -9,7 +9,7 @@ use Rattle.bytes_defs.specs.Numbers.{bytes_of_width}
 use Rattle.std.proofs.lemmas.Grind.{div_ceil_times}
 use Rattle.std.proofs.Math.Nat.{mul-le-mul_right, le-div_iff_mul-le, div-mul-le_self}
 use Rattle.ufs_inode_defs.specs.Layout.{Layout, layout_1, layout_2, pointer_len}
-use Rattle.ufs_inode_defs.specs.Numbers.{counted}
+use Rattle.ufs_inode_defs.specs.Numbers.{non_negative}
 use Rattle.ufs_inode_defs.specs.Superblock.{first_applying, wrong_parts, wrong_field, block_size, fragment_size, is_block_size, is_fragment_size, is_fragment_count}
 use Rattle.ufs_inode_defs.proofs.BlockSteps.{HasPointers}
 use Rattle.ufs_inode_defs.specs.declared.superblock.Super.{Super}
@@ -68,7 +68,7 @@ pub record IsSound (sup : Super) : Type 0 where
   pub most : block_size sup ≤ 65536
   pub power : is_power_of_two (block_size sup) ≡ true
   pub fragment : 512 ≤ fragment_size sup
-  pub fragments : counted sup.frag * fragment_size sup ≡ block_size sup
+  pub fragments : non_negative sup.frag * fragment_size sup ≡ block_size sup
   pub pointers : sup.nindir ≡ block_size sup / pointer_len sup.version
 
 pub is_sound : (sup : Super) → wrong_field sup ≡ None → IsSound sup
@@ -81,7 +81,7 @@ is_sound sup none =
       most = block.most;
       power = block.power;
       fragment = least_fragment (fragment_size sup) parts.1.0;
-      fragments = fragment_counts (counted sup.frag) (fragment_size sup) (block_size sup) parts.1.1.0;
+      fragments = fragment_counts (non_negative sup.frag) (fragment_size sup) (block_size sup) parts.1.1.0;
       pointers = equal sup.nindir (block_size sup / pointer_len sup.version) parts.1.1.1.0;
     }
 
@@ -103,7 +103,7 @@ pointer_bytes false = (omega arith, omega arith)
 pub has_pointers : (sup : Super) → IsSound sup → HasPointers sup
 has_pointers sup sound =
     let all = by_len (pointer_len sup.version) (pointer_bytes (sup.version == 1)) sound.pointers in
-    record { some_bytes = all.0; some_pointers = all.1; whole = all.2; full = whole_units (counted sup.frag) (fragment_size sup) (block_size sup) (let some = sound.fragment in omega (arith, some)) sound.fragments }
+    record { some_bytes = all.0; some_pointers = all.1; whole = all.2; full = whole_units (non_negative sup.frag) (fragment_size sup) (block_size sup) (let some = sound.fragment in omega (arith, some)) sound.fragments }
   where
     by_len : (len : ℕ) → (0 < len) × (len ≤ 8) → sup.nindir ≡ block_size sup / len → (0 < block_size sup) × (0 < sup.nindir) × (sup.nindir * len ≤ block_size sup)
     by_len len some is =

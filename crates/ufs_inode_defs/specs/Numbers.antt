@@ -5,9 +5,9 @@ use Rattle.bytes_defs.specs.Numbers.{signed_at, bytes_of_width}
 use Rattle.bytes_defs.specs.declared.order.Order.{Order}
 
 -- what a signed field counts: nothing where it is below 0
-abbrev pub counted : ℤ → ℕ
-counted (pos n) = n
-counted (negsuc n) = 0
+abbrev pub non_negative : ℤ → ℕ
+non_negative (pos n) = n
+non_negative (negsuc n) = 0
 
 -- so many numbers from one on
 abbrev pub numbers_from : ℕ → ℕ → List ℕ

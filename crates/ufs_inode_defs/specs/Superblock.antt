@@ -11,7 +11,7 @@ use Rattle.fault_defs.specs.declared.Refusal.{Refusal}
 use Rattle.fault_defs.specs.declared.Refusal.TheVariants.{NotThis, Damaged}
 use Rattle.fault_defs.specs.declared.Sort.TheVariants.{SuperField}
 use Rattle.ufs_inode_defs.specs.Layout.{Layout, layout_1, layout_2, layout_of, pointer_len}
-use Rattle.ufs_inode_defs.specs.Numbers.{counted}
+use Rattle.ufs_inode_defs.specs.Numbers.{non_negative}
 use Rattle.ufs_inode_defs.specs.declared.superblock.Super.{Super}
 
 -- the superblock that 1,376 bytes of a volume hold
@@ -36,10 +36,10 @@ superblock_of volume version order bytes = record {
 }
 
 abbrev pub block_size : Super → ℕ
-block_size sup = counted sup.bsize
+block_size sup = non_negative sup.bsize
 
 abbrev pub fragment_size : Super → ℕ
-fragment_size sup = counted sup.fsize
+fragment_size sup = non_negative sup.fsize
 
 -- ---- what can be wrong with it
 
@@ -64,7 +64,7 @@ abbrev pub wrong_parts : Super → List (Bool × ℕ)
 wrong_parts sup =
     (not (is_block_size (block_size sup)), 48)
     ∷ (not (is_fragment_size (fragment_size sup)), 52)
-    ∷ (not (is_fragment_count (counted sup.frag) (fragment_size sup) (block_size sup)), 56)
+    ∷ (not (is_fragment_count (non_negative sup.frag) (fragment_size sup) (block_size sup)), 56)
     ∷ (not (sup.nindir == block_size sup / pointer_len sup.version), 116)
     ∷ (not (sup.inopb == block_size sup / (layout_of sup.version).inode_len), 120)
     ∷ (not (is_inode_count sup.ipg sup.inopb), 184)
@@ -138,14 +138,14 @@ volume_super orders volume = do
 -- the fragment at which a group begins: those of UFS1 are moved round (the macro cgstart)
 abbrev pub group_start : Super → ℕ → ℕ
 group_start sup group =
-    counted sup.fpg * group
-    + (if sup.version == 1 then counted sup.old_cgoffset * bit_and group (4294967295 - sup.old_cgmask) else 0)
+    non_negative sup.fpg * group
+    + (if sup.version == 1 then non_negative sup.old_cgoffset * bit_and group (4294967295 - sup.old_cgmask) else 0)
 
 -- the place of an inode in the image: the macros ino_to_fsba and ino_to_fsbo
 unfoldable pub inode_place : Super → ℕ → ℕ
 inode_place sup number =
     sup.at
-    + (group_start sup (number / sup.ipg) + counted sup.iblkno + counted sup.frag * (number % sup.ipg / sup.inopb)) * fragment_size sup
+    + (group_start sup (number / sup.ipg) + non_negative sup.iblkno + non_negative sup.frag * (number % sup.ipg / sup.inopb)) * fragment_size sup
     + (layout_of sup.version).inode_len * (number % sup.inopb)
 
 -- the volume has an inode of this number, and it lies in the volume

@@ -22,8 +22,8 @@ use image_reads::bytes_at;
 use rx_store::{ReadFault, Store};
 use std::alloc::Global;
 use ufs_directory::{Entry, leading_entries};
-use ufs_inode_defs::superblock::Super;
-use ufs_super::sizes::content_len;
+use ufs_inode_defs::Super;
+use ufs_super::content_len;
 
 /// The names that entries of a block give, behind those that were found.
 fn entries_names<S: Store>(

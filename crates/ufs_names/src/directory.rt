@@ -22,7 +22,7 @@ use crate::walk::Walk;
 use rx_store::{ReadFault, Sort, Store};
 use std::alloc::Global;
 use ufs_blocks::content_blocks;
-use ufs_inode_defs::superblock::Super;
+use ufs_inode_defs::Super;
 
 /// The names that blocks of a directory give, behind those that were found.
 fn blocks_names<S: Store>(

@@ -22,9 +22,8 @@ use std::alloc::Global;
 use std::marker::Model;
 use ufs_directory::Entry;
 use ufs_inode::look_at_inode;
-use ufs_inode_defs::inode::Inode;
-use ufs_inode_defs::superblock::Super;
-use ufs_super::sizes::block_size;
+use ufs_inode_defs::{Inode, Super};
+use ufs_super::block_size;
 
 /// A block of a directory's content: its number there, and its place in the image.
 #[derive(Debug, Drop)]

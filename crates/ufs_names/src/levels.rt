@@ -20,7 +20,7 @@ use crate::walk::Walk;
 use rx_ranges::Items;
 use rx_store::{Bound, ReadFault, Store};
 use std::alloc::{AllocError, Global};
-use ufs_inode_defs::superblock::Super;
+use ufs_inode_defs::Super;
 
 /// The most directories on the way from the root to a file, the root's among them.
 const DEEPEST: u64 = 1_024;

@@ -4,7 +4,7 @@ ghost use Rattle.std.specs.Prelude.{◌≡◌, IfOk};
 use rx_ranges::Text;
 use std::alloc::{AllocError, Global};
 use std::marker::Model;
-use ufs_inode_defs::inode::Inode;
+use ufs_inode_defs::Inode;
 
 /// A name: the number and the inode that it is given to, its path, and the entry that gives it, which stands in the directory of a
 /// number at a byte of its content. The root's name stands in no directory.

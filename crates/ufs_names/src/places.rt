@@ -15,9 +15,8 @@ use crate::sizes::size_place;
 use rx_ranges::{Items, Piece, PieceKind};
 use rx_store::{ReadFault, Sort};
 use std::alloc::Global;
-use ufs_inode_defs::inode::Inode;
-use ufs_inode_defs::superblock::Super;
-use ufs_super::sizes::{block_count, block_size};
+use ufs_inode_defs::{Inode, Super};
+use ufs_super::{block_count, block_size};
 
 /// Whether a byte of a content stands in front of a piece's end.
 fn is_in_front(byte: u64, piece: &Piece) -> bool

@@ -23,8 +23,7 @@ use rx_store::{ReadFault, Sort, Store};
 use std::alloc::{AllocError, Global};
 use std::mem;
 use ufs_inode::{InodeBlock, look_at_inode};
-use ufs_inode_defs::inode::Inode;
-use ufs_inode_defs::superblock::Super;
+use ufs_inode_defs::{Inode, Super};
 
 /// The number of the root's inode (ROOTINO of dinode.h).
 const ROOT: u32 = 2;

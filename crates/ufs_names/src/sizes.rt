@@ -4,8 +4,7 @@ ghost use Rattle.range_defs.specs.declared.TheConstants.{LONGEST_IMAGE};
 ghost use Rattle.ufs_inode_defs.specs.Inode as inode_spec;
 ghost use Rattle.ufs_inode_defs.specs.Superblock as superblock_spec;
 
-use ufs_inode_defs::inode::Inode;
-use ufs_inode_defs::superblock::Super;
+use ufs_inode_defs::{Inode, Super};
 
 /// Whether an inode is a directory.
 pub(crate) fn is_directory(inode: &Inode) -> bool

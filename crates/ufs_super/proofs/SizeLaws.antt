@@ -6,7 +6,7 @@ use Rattle.std.proofs.lemmas.Grind.{div_ceil_times}
 use Rattle.std.proofs.Math.Nat.{mul-le-mul_right, mul-le-mul_left, div-mul-le_self}
 use Rattle.bytes_defs.specs.Numbers.{bytes_of_width}
 use Rattle.ufs_inode_defs.specs.Layout.{Layout, layout_1, layout_2, pointer_len}
-use Rattle.ufs_inode_defs.specs.Numbers.{counted}
+use Rattle.ufs_inode_defs.specs.Numbers.{non_negative}
 use Rattle.ufs_inode_defs.specs.Superblock.{wrong_field, block_size, fragment_size}
 use Rattle.ufs_inode_defs.specs.Stream.{content_len}
 use Rattle.ufs_inode_defs.specs.declared.superblock.Super.{Super}
@@ -24,7 +24,7 @@ pub fragment_bounds : (sup : Super) → wrong_field sup ≡ None → (512 ≤ fr
 fragment_bounds sup none =
     let sound = is_sound sup none in
     let bounds = block_bounds sup none in
-    (sound.fragment, let short = some_of (counted sup.frag) (fragment_size sup) (block_size sup) (omega (arith, bounds.0)) sound.fragments in omega (arith, short, bounds.1))
+    (sound.fragment, let short = some_of (non_negative sup.frag) (fragment_size sup) (block_size sup) (omega (arith, bounds.0)) sound.fragments in omega (arith, short, bounds.1))
 
 -- ---- blocks of pointers
 

@@ -6,33 +6,32 @@ ghost use Rattle.ufs_inode_defs.specs.Numbers as numbers_spec;
 ghost use Rattle.ufs_inode_defs.specs.Superblock as superblock_spec;
 ghost use Rattle.ufs_inode_defs.specs.Superblock.{superblock_of};
 
-use bytes_defs::Order;
-use bytes_defs::field::{i32_at, u32_at};
-use ufs_inode_defs::superblock::Super;
+use bytes_defs::{Order, i32_at, u32_at};
+use ufs_inode_defs::Super;
 
 /// What a signed field counts: nothing where it is below 0.
 pub fn non_negative(field: i32) -> u32
-    ensures { result ≡ numbers_spec.counted field }
+    ensures { result ≡ numbers_spec.non_negative field }
 {
     field.max(0) as u32
 }
 
-/// The bytes of a block.
-pub fn block_size(sup: &Super) -> u32
+/// The bytes of a block that the superblock states, sound or not.
+pub fn stated_block_size(sup: &Super) -> u32
     ensures { result ≡ superblock_spec.block_size sup.now }
 {
     non_negative(sup.bsize)
 }
 
-/// The bytes of a fragment.
-pub fn fragment_size(sup: &Super) -> u32
+/// The bytes of a fragment that the superblock states, sound or not.
+pub fn stated_fragment_size(sup: &Super) -> u32
     ensures { result ≡ superblock_spec.fragment_size sup.now }
 {
     non_negative(sup.fsize)
 }
 
 /// The bytes of a pointer in a version, of which 1 is UFS1: `ufs1_daddr_t` and `ufs2_daddr_t`.
-pub fn pointer_len(version: u8) -> u32
+pub(crate) fn pointer_len(version: u8) -> u32
     ensures { result ≡ layout_spec.pointer_len version }
 {
     if version == 1 { 4 } else { 8 }
@@ -109,19 +108,23 @@ pub(crate) fn wrong_field(sup: &Super) -> Option<u64>
     ensures place { result ≡ superblock_spec.wrong_field sup.now }
     ensures near { IfSome result (λ place. place ≤ 188) }
 {
-    if !is_block_size(block_size(sup)) {
+    if !is_block_size(stated_block_size(sup)) {
         return Some(48);
     }
-    if !is_fragment_size(fragment_size(sup)) {
+    if !is_fragment_size(stated_fragment_size(sup)) {
         return Some(52);
     }
-    if !is_fragment_count(non_negative(sup.frag), fragment_size(sup), block_size(sup)) {
+    if !is_fragment_count(
+        non_negative(sup.frag),
+        stated_fragment_size(sup),
+        stated_block_size(sup),
+    ) {
         return Some(56);
     }
-    if sup.nindir != block_size(sup) / pointer_len(sup.version) {
+    if sup.nindir != stated_block_size(sup) / pointer_len(sup.version) {
         return Some(116);
     }
-    if sup.inopb != block_size(sup) / inode_len(sup.version) {
+    if sup.inopb != stated_block_size(sup) / inode_len(sup.version) {
         return Some(120);
     }
     if !is_inode_count(sup.ipg, sup.inopb) {

@@ -17,10 +17,10 @@ ghost use Rattle.ufs_super.specs.Magic as magic_spec;
 
 use crate::fields::{super_from, wrong_field};
 use bytes_defs::Order::Little;
-use bytes_defs::field::u32_at;
+use bytes_defs::u32_at;
 use range_defs::Range;
 use rx_store::{Area, Fault, NoMemory, ReadFault, Sort, Store};
-use ufs_inode_defs::superblock::Super;
+use ufs_inode_defs::Super;
 
 /// The place of the superblock of a version in the volume: `SBLOCK_UFS1` and `SBLOCK_UFS2`.
 fn superblock_at(version: u8) -> u64

@@ -6,7 +6,7 @@ ghost use Rattle.ufs_inode_defs.specs.Superblock as superblock_spec;
 ghost use Rattle.ufs_inode_defs.specs.Superblock.{wrong_field};
 
 use crate::fields;
-use ufs_inode_defs::superblock::Super;
+use ufs_inode_defs::Super;
 
 /// The bytes of a block.
 #[tactic(auto, using(crate::proofs::SizeLaws::block_bounds))]
@@ -16,7 +16,7 @@ pub fn block_size(sup: &Super) -> u64
     ensures some { 4096 ≤ result }
     ensures most { result ≤ 65536 }
 {
-    u64::from(fields::block_size(sup))
+    u64::from(fields::stated_block_size(sup))
 }
 
 /// The bytes of a fragment.
@@ -27,7 +27,7 @@ pub fn fragment_size(sup: &Super) -> u64
     ensures some { 512 ≤ result }
     ensures most { result ≤ 65536 }
 {
-    u64::from(fields::fragment_size(sup))
+    u64::from(fields::stated_fragment_size(sup))
 }
 
 /// The bytes of a pointer.

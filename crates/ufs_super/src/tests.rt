@@ -2,7 +2,7 @@
 ghost use Rattle.std.specs.Prelude.{◌≡◌, IfOk, length};
 ghost use Rattle.disk_defs.specs.Memory.{held_in_memory};
 
-use super::{block_size, look_for_super, read_super};
+use super::{look_for_super, read_super, stated_block_size};
 use range_defs::Range;
 use rx_store::{MemStore, ReadFault, Sort, Store};
 use std::alloc::{AllocError, Global};
@@ -43,7 +43,7 @@ fn store_of(alloc: Global, bytes: &[u8]) -> Result<MemStore, AllocError>
 fn the_fields_are_those_of_the_superblock(rt: HostRuntime) -> Result<(), Fail> {
     let mut store = store_of(rt.alloc(), &volume())?;
     let sup = read_super(&mut store, 0, 9568);
-    assert_eq!(rt; sup.map(|sup| block_size(&sup)), Ok(4096));
+    assert_eq!(rt; sup.map(|sup| stated_block_size(&sup)), Ok(4096));
     assert_eq!(rt; sup.map(|sup| (sup.version, sup.ncg)), Ok((1, 1)));
     assert_eq!(rt; sup.map(|sup| (sup.nindir, sup.inopb)), Ok((1024, 32)));
     assert_eq!(rt; sup.map(|sup| (sup.ipg, sup.fpg)), Ok((32, 64)));

@@ -21,4 +21,4 @@ pub returns-clause-holds : goal.returns-clause-holds
 returns-clause-holds g c =
     let stands = in_table c.args.sup.now c.args.number c.args.at c.requires.sound c.requires.has c.requires.stands in
     has_read c.read.result c.read.new.self c.args.sup.now c.args.number c.args.at c.bytes_in_front.result c.min-len.result stands c.bytes_in_front.ensures
-    (c.min-len.ensures ∙ ap (λ size. min size (c.args.sup.now.at + c.args.sup.now.len - (c.args.at - c.bytes_in_front.result))) (c.from-2.ensures ∙ c.block_size.ensures)) c.read.ensures.begins c.read.ensures.long
+    (c.min-len.ensures ∙ ap (λ size. min size (c.args.sup.now.at + c.args.sup.now.len - (c.args.at - c.bytes_in_front.result))) (c.from-2.ensures ∙ c.stated_block_size.ensures)) c.read.ensures.begins c.read.ensures.long

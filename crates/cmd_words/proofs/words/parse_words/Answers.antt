@@ -1,7 +1,7 @@
 use Rattle.std.proofs.Common.{arith}
 use Rattle.std.specs.String.{string_bytes}
-use Rattle.redact_cmd.proofs.Lines.{command_of-two, command_of-three, command_of-four}
-use Rattle.redact_cmd.proofs.words.parse_words.Goals as goal
+use Rattle.cmd_words.proofs.Lines.{command_of-two, command_of-three, command_of-four}
+use Rattle.cmd_words.proofs.words.parse_words.Goals as goal
 
 pub returns-in-len2 : goal.returns-in-len2
 returns-in-len2 c =

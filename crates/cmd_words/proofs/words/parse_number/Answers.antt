@@ -2,8 +2,8 @@ use Rattle.std.proofs.Common.{◌≤◌, ◌^◌, sym, arith}
 use Rattle.std.specs.Str.Parse.{digits_value}
 use Rattle.std.proofs.lemmas.Bool.Decides.{nat_tests}
 use Rattle.cmd_defs.specs.Words.{number_of}
-use Rattle.redact_cmd.proofs.Lines.{too_great_from_parse}
-use Rattle.redact_cmd.proofs.words.parse_number.Goals as goal
+use Rattle.cmd_words.proofs.Lines.{too_great_from_parse}
+use Rattle.cmd_words.proofs.words.parse_number.Goals as goal
 
 pub returns-in_err-number : goal.returns-in_err-number
 unfolding number_of
