@@ -1,5 +1,5 @@
 -- The least byte that two sets share.
-use Rattle.std.proofs.Common.{◌≡◌, ℕ, ◌+◌, ◌-◌, ◌<◌, ◌≤◌, Bool, false, ◌&&◌, max, Option, Some, None, List, [], ◌∷◌, length, drop, get_or, refl, sym, ◌∙◌, ap, subst, arith}
+use Rattle.std.proofs.Common.{◌≡◌, ℕ, ◌+◌, ◌-◌, ◌<◌, ◌≤◌, Bool, false, ◌&&◌, max, Option, Some, None, List, [], ◌∷◌, length, drop, get_or, refl, ◌∙◌, subst, arith}
 use Rattle.std.proofs.lemmas.List.{drop_more}
 use Rattle.std.proofs.lemmas.Bool.Decides.{nat_tests}
 use Rattle.range_defs.specs.declared.Range.{Range}
@@ -42,52 +42,45 @@ least-same : (p q : ℕ → Bool) (answer : Option ℕ) → ((byte : ℕ) → p 
 least-same p q None same least = λ byte. same byte ∙ least byte
 least-same p q (Some at) same least = (same at ∙ least.0, λ byte low. same byte ∙ least.1 byte low)
 
-opened : (list : List Range) (i : ℕ) (range : Range) → i < length list → range ≡ get_or list i range → drop i list ≡ range ∷ drop (i + 1) list
-opened list i range within here = drop_more list i range within ∙ ap (λ (r : Range). r ∷ drop (i + 1) list) (sym here)
+-- both sets have ranges left
+abbrev pub AreLeft : List Range → List Range → ℕ → ℕ → Type 0
+AreLeft a b left right = (left < length a) × (right < length b)
 
--- the sets are at their first ranges that are left
-abbrev At : List Range → List Range → ℕ → ℕ → Range → Range → Type 0
-At a b left right mine theirs = (left < length a) × (mine ≡ get_or a left mine) × (right < length b) × (theirs ≡ get_or b right theirs)
-
-mine-kept : (a b : List Range) (left right : ℕ) (mine theirs : Range) → Left a b left right → At a b left right mine theirs → IsRangeList (mine ∷ drop (left + 1) a)
-mine-kept a b left right mine theirs so_far at = subst (λ (xs : List Range). IsRangeList xs) (opened a left mine at.0 at.1) so_far.0
-
-theirs-kept : (a b : List Range) (left right : ℕ) (mine theirs : Range) → Left a b left right → At a b left right mine theirs → IsRangeList (theirs ∷ drop (right + 1) b)
-theirs-kept a b left right mine theirs so_far at = subst (λ (xs : List Range). IsRangeList xs) (opened b right theirs at.2 at.3) so_far.1
-
-both-opened : (a b : List Range) (left right : ℕ) (mine theirs : Range) (byte : ℕ) → At a b left right mine theirs
-    → both (drop left a) (drop right b) byte ≡ both (mine ∷ drop (left + 1) a) (theirs ∷ drop (right + 1) b) byte
-both-opened a b left right mine theirs byte at =
-    ap (λ (xs : List Range). both xs (drop right b) byte) (opened a left mine at.0 at.1)
-    ∙ ap (λ (ys : List Range). both (mine ∷ drop (left + 1) a) ys byte) (opened b right theirs at.2 at.3)
-
-pub left-skips : (a b : List Range) (left right : ℕ) (mine theirs : Range) → Left a b left right → At a b left right mine theirs
-    → mine.len ≤ max mine.at theirs.at - mine.at → Left a b (left + 1) right
-left-skips a b left right mine theirs so_far at apart =
-    let first = mine-kept a b left right mine theirs so_far at in
-    let second = theirs-kept a b left right mine theirs so_far at in (
-      first.2,
+pub left-skips : (a b : List Range) (left right : ℕ) (d : Range) → Left a b left right → AreLeft a b left right
+    → (get_or a left d).len ≤ max (get_or a left d).at (get_or b right d).at - (get_or a left d).at → Left a b (left + 1) right
+left-skips a b left right d so_far are_left apart =
+    let first = drop_more a left d are_left.0 in
+    let second = drop_more b right d are_left.1 in
+    let kept_a = subst IsRangeList first so_far.0 in
+    let kept_b = subst IsRangeList second so_far.1 in (
+      kept_a.2,
       so_far.1,
-      λ byte. so_far.2 byte ∙ both-opened a b left right mine theirs byte at
-          ∙ skip-first mine theirs (drop (left + 1) a) (drop (right + 1) b) byte (omega (arith, first.0)) second
-          ∙ ap (λ (ys : List Range). both (drop (left + 1) a) ys byte) (sym (opened b right theirs at.2 at.3)),
+      λ byte. so_far.2 byte
+          ∙ rw (first, second) (skip-first (get_or a left d) (get_or b right d) (drop (left + 1) a) (drop (right + 1) b) byte (omega (arith, kept_a.0)) kept_b),
     )
 
-pub right-skips : (a b : List Range) (left right : ℕ) (mine theirs : Range) → Left a b left right → At a b left right mine theirs
-    → theirs.len ≤ max mine.at theirs.at - theirs.at → Left a b left (right + 1)
-right-skips a b left right mine theirs so_far at apart =
-    let first = mine-kept a b left right mine theirs so_far at in
-    let second = theirs-kept a b left right mine theirs so_far at in (
+pub right-skips : (a b : List Range) (left right : ℕ) (d : Range) → Left a b left right → AreLeft a b left right
+    → (get_or b right d).len ≤ max (get_or a left d).at (get_or b right d).at - (get_or b right d).at → Left a b left (right + 1)
+right-skips a b left right d so_far are_left apart =
+    let first = drop_more a left d are_left.0 in
+    let second = drop_more b right d are_left.1 in
+    let kept_a = subst IsRangeList first so_far.0 in
+    let kept_b = subst IsRangeList second so_far.1 in (
       so_far.0,
-      second.2,
-      λ byte. so_far.2 byte ∙ both-opened a b left right mine theirs byte at
-          ∙ skip-second mine theirs (drop (left + 1) a) (drop (right + 1) b) byte (omega (arith, second.0)) first
-          ∙ ap (λ (xs : List Range). both xs (drop (right + 1) b) byte) (sym (opened a left mine at.0 at.1)),
+      kept_b.2,
+      λ byte. so_far.2 byte
+          ∙ rw (first, second) (skip-second (get_or a left d) (get_or b right d) (drop (left + 1) a) (drop (right + 1) b) byte (omega (arith, kept_b.0)) kept_a),
     )
 
-pub found : (a b : List Range) (left right : ℕ) (mine theirs : Range) → Left a b left right → At a b left right mine theirs
-    → max mine.at theirs.at - mine.at < mine.len → max mine.at theirs.at - theirs.at < theirs.len → IsLeast (both a b) (Some (max mine.at theirs.at))
-found a b left right mine theirs so_far at in_mine in_theirs =
+pub found : (a b : List Range) (left right : ℕ) (d : Range) → Left a b left right → AreLeft a b left right
+    → max (get_or a left d).at (get_or b right d).at - (get_or a left d).at < (get_or a left d).len
+    → max (get_or a left d).at (get_or b right d).at - (get_or b right d).at < (get_or b right d).len
+    → IsLeast (both a b) (Some (max (get_or a left d).at (get_or b right d).at))
+found a b left right d so_far are_left in_mine in_theirs =
+    let first = drop_more a left d are_left.0 in
+    let second = drop_more b right d are_left.1 in
+    let mine : Range = get_or a left d in
+    let theirs : Range = get_or b right d in
     least-same (both a b) (both (mine ∷ drop (left + 1) a) (theirs ∷ drop (right + 1) b)) (Some (max mine.at theirs.at))
-    (λ byte. so_far.2 byte ∙ both-opened a b left right mine theirs byte at)
-    (found-here mine theirs (drop (left + 1) a) (drop (right + 1) b) (mine-kept a b left right mine theirs so_far at) (theirs-kept a b left right mine theirs so_far at) in_mine in_theirs)
+    (λ byte. so_far.2 byte ∙ rw (first, second) refl)
+    (found-here mine theirs (drop (left + 1) a) (drop (right + 1) b) (subst IsRangeList first so_far.0) (subst IsRangeList second so_far.1) in_mine in_theirs)

@@ -1,3 +1,4 @@
+pub mod Held
 pub mod Hull
 pub mod Path
 pub mod PlanChecks

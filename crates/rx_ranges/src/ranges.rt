@@ -6,6 +6,7 @@ ghost use Rattle.range_defs.specs.Places.{covers, IsLeast, IsRangeList, EndsInRe
 
 mod sets;
 
+use crate::items::Items;
 use crate::text::NoMemory;
 use range_defs::Range;
 use std::alloc::Global;
@@ -14,7 +15,7 @@ use std::marker::Model;
 /// A set of bytes: ranges that are sorted, not empty, don't touch and end in reach.
 #[derive(Debug, Drop)]
 pub struct RangeList {
-    ranges: Vec<Range>,
+    ranges: Items<Range>,
 }
 
 impl Model for RangeList {
@@ -24,9 +25,9 @@ impl Model for RangeList {
 
     ghost Value = { List Range };
 
-    ghost view = { λ l. l.ranges.items };
+    ghost view = { λ l. l.ranges };
 
-    ghost invariant = { λ l. IsRangeList l.ranges.items × All EndsInReach l.ranges.items };
+    ghost invariant = { λ l. IsRangeList l.ranges × All EndsInReach l.ranges };
 }
 
 impl RangeList {
@@ -40,18 +41,22 @@ impl RangeList {
         sorted.sort_unstable_by_key(|range| range.at);
         let mut ranges = merged(alloc, &sorted)?;
         ranges.shrink_to_fit();
-        Ok(RangeList { ranges })
+        Ok(RangeList {
+            ranges: Items::from_vec(ranges),
+        })
     }
 
     /// The least byte that both sets have; None where they share none.
     pub fn meets(&self, other: &RangeList) -> Option<u64>
         ensures { IsLeast (λ byte. covers self.now byte && covers other.now byte) result }
     {
+        let ours = self.items();
+        let others = other.items();
         let mut left = 0;
         let mut right = 0;
-        while left < self.ranges.len() && right < other.ranges.len() {
-            let mine = self.ranges[left];
-            let theirs = other.ranges[right];
+        while left < ours.len() && right < others.len() {
+            let mine = ours[left];
+            let theirs = others[right];
             let at = mine.at.max(theirs.at);
             if at - mine.at >= mine.len {
                 left += 1;
@@ -70,7 +75,7 @@ impl RangeList {
         ensures kept { IsRangeList self.now }
         ensures reach { All EndsInReach self.now }
     {
-        self.ranges.as_slice()
+        self.ranges.items()
     }
 }
 

@@ -4,6 +4,7 @@ ghost use Rattle.rx_ranges.specs.Hull.{overlap};
 ghost use Rattle.range_defs.specs.Places.{covers, in_range, IsRangeList, EndsInReach};
 
 use super::{RangeList, end, push_range};
+use crate::items::Items;
 use crate::text::NoMemory;
 use range_defs::{REACH, Range};
 use std::alloc::Global;
@@ -18,7 +19,7 @@ impl RangeList {
         let theirs = gaps(alloc, other.items())?;
         let neither = shared(alloc, &mine, &theirs)?;
         Ok(RangeList {
-            ranges: gaps(alloc, &neither)?,
+            ranges: Items::from_vec(gaps(alloc, &neither)?),
         })
     }
 
@@ -29,7 +30,7 @@ impl RangeList {
     {
         let outside = gaps(alloc, other.items())?;
         Ok(RangeList {
-            ranges: shared(alloc, self.items(), &outside)?,
+            ranges: Items::from_vec(shared(alloc, self.items(), &outside)?),
         })
     }
 
@@ -41,7 +42,7 @@ impl RangeList {
         let mut inside = Vec::new(alloc);
         push_range(&mut inside, reached(range))?;
         Ok(RangeList {
-            ranges: shared(alloc, self.items(), &inside)?,
+            ranges: Items::from_vec(shared(alloc, self.items(), &inside)?),
         })
     }
 }

@@ -17,5 +17,6 @@ merged-requires-clause-sorted c =
 
 pub returns-clause-bytes : goal.returns-clause-bytes
 returns-clause-bytes c = λ byte.
-    ap (λ ranges. covers ranges byte) c.shrink_to_fit.ensures.items ∙ c.in_ok-ranges.ensures.bytes byte ∙ ap (λ ranges. covers ranges byte) c.deref.ensures.value
+    ap (λ ranges. covers ranges byte) c.from_vec.ensures
+    ∙ ap (λ ranges. covers ranges byte) c.shrink_to_fit.ensures.items ∙ c.in_ok-ranges.ensures.bytes byte ∙ ap (λ ranges. covers ranges byte) c.deref.ensures.value
     ∙ covers-permutation c.args.ranges.items c.sort_unstable_by_key.new.self.items byte c.sort_unstable_by_key.ensures.permutation

@@ -4,7 +4,7 @@ use Rattle.rx_ranges.proofs.ranges.RangeList.meets.Given as goal
 
 -- what both sets share lies in the ranges that are left
 abbrev pub invariant-loop-left : goal.invariant-loop-left
-invariant-loop-left l = Left l.self-inside.ranges.items l.other-inside.ranges.items l.left l.right
+invariant-loop-left l = Left l.ours l.others l.left l.right
 
 abbrev pub decreases-loop-left : goal.decreases-loop-left
-decreases-loop-left l = (length l.self-inside.ranges.items - l.left) + (length l.other-inside.ranges.items - l.right)
+decreases-loop-left l = (length l.ours - l.left) + (length l.others - l.right)
