@@ -5,7 +5,7 @@ ghost use Rattle.std.specs.Ordering.{nat_cmp};
 ghost use Rattle.rx_ranges.specs.Path.{IsPath};
 ghost use Rattle.rx_tree.specs.Path.{joined_path};
 
-use rx_ranges::{MAX_PATH, Text};
+use rx_ranges::{Items, MAX_PATH, Text};
 use std::alloc::{AllocError, Global};
 use std::marker::Model;
 
@@ -13,7 +13,7 @@ use std::marker::Model;
 /// no control character, and has at most 65,535 bytes.
 #[derive(Debug, Drop)]
 pub struct Names {
-    names: Vec<Text>,
+    names: Items<Text>,
 }
 
 impl Model for Names {
@@ -24,9 +24,9 @@ impl Model for Names {
 
     ghost Value = { List (List ℕ) };
 
-    ghost view = { λ n. n.names.items };
+    ghost view = { λ n. n.names };
 
-    ghost invariant = { λ n. IsSorted (slice_cmp nat_cmp) n.names.items × All IsPath n.names.items };
+    ghost invariant = { λ n. IsSorted (slice_cmp nat_cmp) n.names × All IsPath n.names };
 }
 
 impl Names {
@@ -36,7 +36,9 @@ impl Names {
         requires paths { All IsPath items.items }
         ensures { result ≡ items.items }
     {
-        Names { names: items }
+        Names {
+            names: Items::from_vec(items),
+        }
     }
 
     /// The names in order.
@@ -45,7 +47,7 @@ impl Names {
         ensures sorted { IsSorted (slice_cmp nat_cmp) self.now }
         ensures paths { All IsPath self.now }
     {
-        self.names.as_slice()
+        self.names.items()
     }
 }
 

@@ -2,7 +2,7 @@
 ghost use Rattle.std.specs.Prelude.{◌≡◌};
 ghost use Rattle.rx_tree.specs.PartOrder.{ArePartsSorted};
 
-use rx_ranges::{Pieces, RangeList, Text};
+use rx_ranges::{Items, Pieces, RangeList, Text};
 use std::marker::Model;
 
 /// What a part is to its file.
@@ -51,7 +51,7 @@ impl Model for Part {
 /// The parts of a file: by role, Content first, and then by the bytes of their names.
 #[derive(Debug, Drop)]
 pub struct Parts {
-    parts: Vec<Part>,
+    parts: Items<Part>,
 }
 
 impl Model for Parts {
@@ -61,9 +61,9 @@ impl Model for Parts {
 
     ghost Value = { List PartValue };
 
-    ghost view = { λ p. p.parts.items };
+    ghost view = { λ p. p.parts };
 
-    ghost invariant = { λ p. ArePartsSorted p.parts.items };
+    ghost invariant = { λ p. ArePartsSorted p.parts };
 }
 
 impl Parts {
@@ -72,7 +72,9 @@ impl Parts {
         requires { ArePartsSorted items.items }
         ensures { result ≡ items.items }
     {
-        Parts { parts: items }
+        Parts {
+            parts: Items::from_vec(items),
+        }
     }
 
     /// The parts in order.
@@ -80,6 +82,6 @@ impl Parts {
         ensures items { result.now ≡ self.now }
         ensures sorted { ArePartsSorted self.now }
     {
-        self.parts.as_slice()
+        self.parts.items()
     }
 }
