@@ -8,3 +8,4 @@ pub mod PlaceLaws
 pub mod DirectoryLaws
 pub mod LevelLaws
 pub mod RootLaws
+pub mod KeptLaws

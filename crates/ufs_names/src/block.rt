@@ -81,7 +81,8 @@ pub(crate) fn block_names<S: Store>(
     ensures same { S.state store.new ≡ S.state store.old }
     ensures counted { IsReadCounted Image result (S.faults store.old) (S.faults store.new) }
 {
-    let len = content_len(sup, directory.inode.size, block.index);
+    let inode = directory.inode.inode();
+    let len = content_len(sup, inode.size, block.index);
     let bytes = bytes_at(alloc, store, block.at, len, &mut seen.looked)?;
     let entries = leading_entries(alloc, sup.order, block.at, &bytes)?;
     let place = Place { directory, block };

@@ -78,12 +78,12 @@ pub(crate) fn directory_names<S: Store>(
     ensures same { S.state store.new ≡ S.state store.old }
     ensures counted { IsReadCounted Image result (S.faults store.old) (S.faults store.new) }
 {
-    let inode = &directory.inode;
+    let inode = directory.inode.inode();
     if inode.size % 512 != 0 {
-        return Err(ReadFault::Damaged(Sort::DirSize, size_place(sup, inode)));
+        return Err(ReadFault::Damaged(Sort::DirSize, size_place(sup, &inode)));
     }
-    let laid = content_blocks(alloc, store, sup, inode, walk.runs, &mut seen.looked)?;
-    let blocks = directory_blocks(alloc, sup, inode, &laid.pieces)?;
+    let laid = content_blocks(alloc, store, sup, &inode, walk.runs, &mut seen.looked)?;
+    let blocks = directory_blocks(alloc, sup, &inode, &laid.pieces)?;
     let runs = laid.before + laid.pieces.len() as u64 + laid.visited;
     let walk = walk.with_runs(runs);
     blocks_names(alloc, store, sup, directory, walk, blocks.items(), seen)

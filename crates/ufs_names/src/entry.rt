@@ -12,6 +12,7 @@ ghost use Rattle.rx_store.specs.Answers.{Answers};
 ghost use Rattle.ufs_volume_defs.specs.Names as names_spec;
 ghost use Rattle.ufs_names.specs.Walked.{IsInodeOf, IsNamed, IsWalked, KeptWithin, Settles, limited_name};
 
+use crate::kept::KeptInode;
 use crate::name::Name;
 use crate::path::path_of;
 use crate::seen::Seen;
@@ -68,7 +69,7 @@ fn name_by(
     let path = path_of(alloc, &directory.path, entry.name)?;
     Ok(Name {
         number: entry.inode,
-        inode,
+        inode: KeptInode::of(alloc, &inode)?,
         path,
         directory: directory.number,
         offset: block.index * block_size(sup) + entry.at as u64,

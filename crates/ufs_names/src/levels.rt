@@ -36,7 +36,7 @@ pub(crate) fn directories_behind(
     let mut found = Vec::new(alloc);
     let first = count.min(names.len());
     for name in &names[first..] {
-        if is_directory(&name.inode) {
+        if is_directory(&name.inode.inode()) {
             found.push(name.copy(alloc)?)?;
         }
     }

@@ -1,19 +1,19 @@
 //! Names.
 ghost use Rattle.std.specs.Prelude.{◌≡◌, IfOk};
 
+use crate::kept::KeptInode;
 use rx_ranges::Text;
 use std::alloc::{AllocError, Global};
 use std::marker::Model;
-use ufs_inode_defs::Inode;
 
 /// A name: the number and the inode that it is given to, its path, and the entry that gives it, which stands in the directory of a
 /// number at a byte of its content. The root's name stands in no directory.
 #[derive(Debug, Drop)]
 pub struct Name {
     pub number: u32,
-    pub inode: Inode,
-    pub path: Text,
     pub directory: u32,
+    pub inode: KeptInode,
+    pub path: Text,
     pub offset: u64,
 }
 
@@ -38,7 +38,7 @@ impl Name {
     {
         Ok(Name {
             number: self.number,
-            inode: self.inode,
+            inode: KeptInode::of(alloc, &self.inode.inode())?,
             path: Text::from_str(alloc, self.path.as_str())?,
             directory: self.directory,
             offset: self.offset,

@@ -12,6 +12,7 @@ ghost use Rattle.ufs_volume_defs.specs.Names as spec;
 ghost use Rattle.ufs_volume_defs.specs.Names.{most_names, most_path_bytes, path_bytes, volume_names};
 ghost use Rattle.ufs_names.specs.Walked.{IsInodeOf, IsNamed, IsWalked, KeptWithin};
 
+use crate::kept::KeptInode;
 use crate::levels::names_below;
 use crate::name::Name;
 use crate::seen::Seen;
@@ -61,7 +62,7 @@ fn root_name(alloc: Global, inode: Inode) -> Result<Name, AllocError>
 {
     Ok(Name {
         number: ROOT,
-        inode,
+        inode: KeptInode::of(alloc, &inode)?,
         path: Text::from_str(alloc, "/")?,
         directory: 0,
         offset: 0,

@@ -1,12 +1,14 @@
-//! Tests of what no clause says: a volume written by hand, and a device that fails.
+//! Tests of what no clause says: a volume written by hand, a device that fails, and inodes that are kept.
 ghost use Rattle.std.specs.Prelude.{◌≡◌, IfOk};
 ghost use Rattle.disk_defs.specs.Memory.{held_in_memory};
 
-use crate::read_names;
+use crate::{KeptInode, Name, read_names};
 use range_defs::Range;
 use rx_store::{MemStore, ReadFault, Sort};
 use std::alloc::{AllocError, Global};
+use std::mem::size_of;
 use std::test::Fail;
+use ufs_inode_defs::Inode;
 use ufs_super::read_super;
 
 /// The superblock of a UFS1 of two groups of 32 inodes and 64 fragments of 512 bytes. Inode n of the first group stands at byte
@@ -150,5 +152,39 @@ fn a_read_that_fails_in_mid_walk_is_told(rt: HostRuntime) -> Result<(), Fail> {
     let mut looked = Vec::new(rt.alloc());
     let walk = read_names(rt.alloc(), &mut store, &sup, &mut looked);
     assert_eq!(rt; walk.err(), Some(ReadFault::Device));
+    Ok(())
+}
+
+/// An inode with these pointers to the blocks of its content.
+fn inode_with(direct: [i64; 12], indirect: [i64; 3]) -> Inode {
+    Inode {
+        at: 1,
+        mode: 2,
+        nlink: 3,
+        uid: 4,
+        gid: 5,
+        size: 6,
+        blocks: 7,
+        atime: -8,
+        mtime: -9,
+        ctime: -10,
+        birth: -11,
+        flags: 12,
+        extsize: 13,
+        ext: [0, 0],
+        direct,
+        indirect,
+    }
+}
+
+#[test]
+fn a_kept_inode_is_given_back(rt: HostRuntime) -> Result<(), Fail> {
+    let one = inode_with([40, 0, 0, 0, 0, 0, 0, 0, 0, 0, 0, 0], [0, 0, 0]);
+    let kept = KeptInode::of(rt.alloc(), &one)?;
+    assert_eq!(rt; kept.inode(), one);
+    let many = inode_with([40, 0, 0, 0, 0, 0, 0, 0, 0, 0, 0, 0], [0, 0, 41]);
+    let kept = KeptInode::of(rt.alloc(), &many)?;
+    assert_eq!(rt; kept.inode(), many);
+    assert_eq!(rt; size_of::<Name>(), 136);
     Ok(())
 }

@@ -1,6 +1,6 @@
 //! What is in one of two sets, in the first alone, and in a range. Each call goes through its lists once.
 ghost use Rattle.std.specs.Prelude.{◌≡◌, ◌&&◌, ◌||◌, ℕ, All, IfOk, not, nat_lt};
-ghost use Rattle.rx_ranges.specs.Hull.{overlap};
+ghost use Rattle.rx_ranges.specs.Hull as spec;
 ghost use Rattle.range_defs.specs.Places.{covers, in_range, IsRangeList, EndsInReach};
 
 use super::{RangeList, end, push_range};
@@ -97,7 +97,7 @@ fn shared(alloc: Global, a: &[Range], b: &[Range]) -> Result<Vec<Range>, NoMemor
 fn overlap(a: Range, b: Range) -> Range
     requires reach_a { EndsInReach a }
     requires reach_b { EndsInReach b }
-    ensures { result ≡ overlap a b }
+    ensures { result ≡ spec.overlap a b }
 {
     let at = a.at.max(b.at);
     Range {
