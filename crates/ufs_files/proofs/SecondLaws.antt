@@ -81,24 +81,24 @@ module _ (told : Option (List ℕ)) (sup : Super) (volume : ℕ) (filed : Filed)
       (comes_value told (group_file sup volume filed group) before told (inode_parts sup filed.runs group.inode) (λ parted. Done (with_group sup volume filed group parted)) pushed refl parts_left parted looked read)
 
 -- the same in the code's words, where the files and the group were taken apart
-module _ (told : Option (List ℕ)) (sup : Super) (volume : ℕ) (filed parted_from : Filed) (group inside : Group) (before pushed : List Range) (range : Range) (holds : parted_from ≡ filed) (opened : inside ≡ group) (good : IsGoodGroup sup group)
-    (range_is : range ≡ record { at = inside.inode.at; len = (layout_of sup.version).inode_len }) (kept : pushed ≡ before ++ range ∷ []) where
+module _ (told : Option (List ℕ)) (sup : Super) (volume : ℕ) (filed parted_from : Filed) (group : Group) (inode : Inode) (before pushed : List Range) (range : Range) (holds : parted_from ≡ filed) (opened : inode ≡ group.inode) (good : IsGoodGroup sup group)
+    (range_is : range ≡ record { at = inode.at; len = (layout_of sup.version).inode_len }) (kept : pushed ≡ before ++ range ∷ []) where
   kept_is : pushed ≡ before ++ record { at = group.inode.at; len = (layout_of sup.version).inode_len } ∷ []
-  kept_is = kept ∙ ap (λ one. before ++ one ∷ []) (range_is ∙ ap (λ (g : Group). record { at = g.inode.at; len = (layout_of sup.version).inode_len }) opened)
+  kept_is = kept ∙ ap (λ one. before ++ one ∷ []) (range_is ∙ ap (λ (one : Inode). record { at = one.at; len = (layout_of sup.version).inode_len }) opened)
 
-  of_these : (looked : List Range) (result : Result Parted ReadFault) → ReadsAs told (inode_parts sup parted_from.runs inside.inode) pushed looked result → ReadsAs told (inode_parts sup filed.runs group.inode) pushed looked result
+  of_these : (looked : List Range) (result : Result Parted ReadFault) → ReadsAs told (inode_parts sup parted_from.runs inode) pushed looked result → ReadsAs told (inode_parts sup filed.runs group.inode) pushed looked result
   of_these looked result read =
-      let P : Filed → Type 0 = λ f. ReadsAs told (inode_parts sup f.runs inside.inode) pushed looked result in
-      let Q : Group → Type 0 = λ g. ReadsAs told (inode_parts sup filed.runs g.inode) pushed looked result in
+      let P : Filed → Type 0 = λ f. ReadsAs told (inode_parts sup f.runs inode) pushed looked result in
+      let Q : Inode → Type 0 = λ one. ReadsAs told (inode_parts sup filed.runs one) pushed looked result in
       subst Q opened (subst P holds read)
 
   pub step_refused : (fault : ReadFault) (looked last : List Range) (result : Result Filed ReadFault) → IsErr result → IsErrAnd result (λ other. other ≡ fault)
-      → ReadsAs told (inode_parts sup parted_from.runs inside.inode) pushed looked (Err fault) → ReadsAs told (group_file sup volume filed group) before last result
+      → ReadsAs told (inode_parts sup parted_from.runs inode) pushed looked (Err fault) → ReadsAs told (group_file sup volume filed group) before last result
   step_refused fault looked last result is passed read =
       ends_with told (group_file sup volume filed group) before last result fault is passed
       (file_refused told sup volume filed group before pushed good kept_is fault looked last (of_these looked (Err fault) read))
 
-  pub step_found : (parted : Parted) (after : Filed) (looked : List Range) → ReadsAs told (inode_parts sup parted_from.runs inside.inode) pushed looked (Ok parted) → after ≡ with_group sup volume filed group parted
+  pub step_found : (parted : Parted) (after : Filed) (looked : List Range) → ReadsAs told (inode_parts sup parted_from.runs inode) pushed looked (Ok parted) → after ≡ with_group sup volume filed group parted
       → ReadsAs told (group_file sup volume filed group) before looked (Ok after)
   step_found parted after looked read is =
       let P : Filed → Type 0 = λ f. ReadsAs told (group_file sup volume filed group) before looked (Ok f) in

@@ -56,18 +56,18 @@ pub(crate) fn file_from(sup: &Super, volume: u32, group: Group, parts: Vec<Part>
     requires sorted { ArePartsSorted parts.items }
     ensures { result ≡ file_of sup.now volume group.number group.inode group.paths parts.items }
 {
-    let inode = &group.inode;
+    let inode = group.inode.inode();
     FileEntry {
         id: FileId {
             volume,
             number: u64::from(group.number),
         },
-        kind: kind_of(inode),
+        kind: kind_of(&inode),
         mode: Some(inode.mode),
         links: Some(inode.nlink),
         uid: Some(inode.uid),
         gid: Some(inode.gid),
-        times: times_of(sup, inode),
+        times: times_of(sup, &inode),
         names: names_of(group.paths),
         parts: Parts::from_vec(parts),
     }

@@ -6,14 +6,13 @@ use crate::rest::Rest;
 use rx_ranges::{NoMemory, Text};
 use std::alloc::Global;
 use std::marker::Model;
-use ufs_inode_defs::Inode;
-use ufs_names::Name;
+use ufs_names::{KeptInode, Name};
 
 /// The number of an inode, the inode, and its paths.
 #[derive(Debug, Drop)]
 pub(crate) struct Group {
     pub(crate) number: u32,
-    pub(crate) inode: Inode,
+    pub(crate) inode: KeptInode,
     pub(crate) paths: Vec<Text>,
 }
 

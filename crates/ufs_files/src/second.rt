@@ -105,8 +105,9 @@ fn group_file<S: Store>(
     ensures same { S.state store.new ≡ S.state store.old }
     ensures counted { IsReadCounted Image result (S.faults store.old) (S.faults store.new) }
 {
-    looked.push(range_of(sup, &group.inode))?;
-    let parted = inode_parts(alloc, store, sup, &group.inode, filed.runs, looked)?;
+    let inode = group.inode.inode();
+    looked.push(range_of(sup, &inode))?;
+    let parted = inode_parts(alloc, store, sup, &inode, filed.runs, looked)?;
     Ok(filed.with_group(sup, volume, group, parted)?)
 }
 

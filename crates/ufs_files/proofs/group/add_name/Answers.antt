@@ -13,7 +13,7 @@ returns c =
 pub returns-2 : goal.returns-2
 returns-2 c =
     let name : Named = record { number = c.name.inside.number; inode = c.name.inside.inode; path = c.name.inside.path; directory = c.name.inside.directory; offset = c.name.inside.offset } in
-    let pushed : c.push-2.new.self.items ≡ c.in_default.groups.items ++ group_of name ∷ [] =
+    let pushed : c.push-3.new.self.items ≡ c.in_default.groups.items ++ group_of name ∷ [] =
     c.in_ok-push-2.ensures.items ∙ ap (λ paths. c.in_default.groups.items ++ record { number = c.name.inside.number; inode = c.name.inside.inode; paths = paths } ∷ []) c.in_ok-vec.ensures.items in
     elim c.in_default.branch [
       | in_default-via-in-None-1 w ↦

@@ -1,26 +1,28 @@
-use Rattle.std.proofs.Common.{sym, subst}
+use Rattle.std.proofs.Common.{◌≤◌, ap, sym, subst, ◌∙◌}
 use Rattle.disk_defs.specs.Disk.{told_image}
-use Rattle.ufs_files.specs.Filed.{IsGoodGroup}
+use Rattle.range_defs.specs.declared.TheConstants.{LONGEST_IMAGE}
+use Rattle.ufs_inode_defs.specs.declared.inode.Inode.{Inode}
 use Rattle.ufs_files.proofs.SecondLaws.{inode_near, step_refused, step_found, step_kept}
 use Rattle.ufs_files.proofs.second.group_file.Goals as goal
 
 pub inode_parts-requires-clause-stands : goal.inode_parts-requires-clause-stands
 inode_parts-requires-clause-stands g c =
-    let good : IsGoodGroup c.args.sup.now (record { number = c.group.inside.number; inode = c.group.inside.inode; paths = c.group.inside.paths.items }) = subst (IsGoodGroup c.args.sup.now) (sym c.group.view_is) c.requires.good in
-    inode_near c.args.sup.now c.group.inside.number c.group.inside.inode good.inode c.requires.near
+    let near = inode_near c.args.sup.now c.args.group.number c.args.group.inode c.requires.good.inode c.requires.near in
+    let P : Inode → Type 0 = λ inode. inode.at ≤ LONGEST_IMAGE in
+    subst P (sym (c.inode-inode.ensures ∙ ap (λ group. group.inode) c.group.view_is)) near
 
 pub returns-in_err-parted-clause-reads : goal.returns-in_err-parted-clause-reads
 returns-in_err-parted-clause-reads g c =
-    step_refused (told_image (g.S.Store.state c.args.store.now)) c.args.sup.now c.args.volume c.args.filed _ c.args.group _ c.args.looked.now.items c.push.new.self.items c.range_of.result c.filed.view_is c.group.view_is c.requires.good
+    step_refused (told_image (g.S.Store.state c.args.store.now)) c.args.sup.now c.args.volume c.args.filed _ c.args.group _ c.args.looked.now.items c.push.new.self.items c.range_of.result c.filed.view_is (c.inode-inode.ensures ∙ ap (λ group. group.inode) c.group.view_is) c.requires.good
     c.range_of.ensures c.in_ok-push.ensures.items c.in_err-parted.field-0.0 c.inode_parts.new.looked.items c.inode_parts.new.looked.items c.from_residual-in_err-parted.result
     c.from_residual-in_err-parted.ensures.0 c.from_residual-in_err-parted.ensures.1 c.in_err-parted.ensures.reads
 
 pub returns-clause-reads : goal.returns-clause-reads
 returns-clause-reads g c =
-    step_found (told_image (g.S.Store.state c.args.store.now)) c.args.sup.now c.args.volume c.args.filed _ c.args.group _ c.args.looked.now.items c.push.new.self.items c.range_of.result c.filed.view_is c.group.view_is c.requires.good
+    step_found (told_image (g.S.Store.state c.args.store.now)) c.args.sup.now c.args.volume c.args.filed _ c.args.group _ c.args.looked.now.items c.push.new.self.items c.range_of.result c.filed.view_is (c.inode-inode.ensures ∙ ap (λ group. group.inode) c.group.view_is) c.requires.good
     c.range_of.ensures c.in_ok-push.ensures.items c.in_ok-parted.parted c.in_ok-with_group.field-0 c.inode_parts.new.looked.items c.in_ok-parted.ensures.reads c.in_ok-with_group.ensures
 
 pub returns-clause-kept_within : goal.returns-clause-kept_within
 returns-clause-kept_within g c =
-    step_kept (told_image (g.S.Store.state c.args.store.now)) c.args.sup.now c.args.volume c.args.filed _ c.args.group _ c.args.looked.now.items c.push.new.self.items c.range_of.result c.filed.view_is c.group.view_is c.requires.good
+    step_kept (told_image (g.S.Store.state c.args.store.now)) c.args.sup.now c.args.volume c.args.filed _ c.args.group _ c.args.looked.now.items c.push.new.self.items c.range_of.result c.filed.view_is (c.inode-inode.ensures ∙ ap (λ group. group.inode) c.group.view_is) c.requires.good
     c.range_of.ensures c.in_ok-push.ensures.items c.inode_parts.new.looked.items c.in_ok-parted.ensures.kept_within
