@@ -1,6 +1,5 @@
 //! Tests of what no clause says: that memory is enough, and what real files give.
 ghost use Rattle.std.specs.Prelude.{◌≡◌, ◌≤◌, IfOk};
-ghost use Rattle.disk_defs.specs.Disk.{size_of};
 
 use super::{
     Area, Fault, FileStore, MemSink, MemSource, MemStore, NoMemory, Opened, ReadError, Sink,
@@ -14,10 +13,21 @@ use std::process::Abort;
 use std::test::Fail;
 use std::{env, fs, io, process};
 
-fn bytes_of(alloc: Global, text: &[u8]) -> Result<Vec<u8>, AllocError>
-    ensures { IfOk result (λ bytes. bytes.items ≡ text.now) }
-{
-    Vec::from_slice(alloc, text)
+/// Reads two bytes where they may be read, after a call for the size.
+fn read<S: Store>(store: &mut S, area: Area, at: u64) -> Result<[u8; 2], Fault> {
+    let size = store.len(area)?;
+    if at > size || 2 > size - at {
+        return Err(Fault);
+    }
+    let mut buf = [0; 2];
+    store.read_at(area, at, &mut buf)?;
+    Ok(buf)
+}
+
+fn reads<S: Store>(rt: &impl Abort, store: &mut S, rows: &[(Area, u64, Result<[u8; 2], Fault>)]) {
+    for (area, at, answer) in rows {
+        assert_eq!(*rt; read(store, *area, *at), *answer);
+    }
 }
 
 /// Writes bytes where they may be written.
@@ -33,6 +43,16 @@ fn write<S: Store>(store: &mut S, area: Area, at: u64, bytes: &[u8]) -> Result<(
     store.write_at(area, at, bytes)
 }
 
+fn writes<S: Store>(
+    rt: &impl Abort,
+    store: &mut S,
+    rows: &[(Area, u64, &[u8], Result<(), Fault>)],
+) {
+    for (area, at, bytes, answer) in rows {
+        assert_eq!(*rt; write(store, *area, *at, bytes), *answer);
+    }
+}
+
 /// Cuts the journal where it is that long.
 fn cut<S: Store>(store: &mut S, len: u64) -> Result<(), Fault> {
     if len > store.len(Area::Journal)? {
@@ -41,22 +61,31 @@ fn cut<S: Store>(store: &mut S, len: u64) -> Result<(), Fault> {
     store.cut_journal(len)
 }
 
+/// A store with room for a journal of four bytes, and for four changes that write so many bytes.
+fn store_of(alloc: Global, log: u64) -> Result<MemStore, NoMemory> {
+    let image = Vec::from_slice(alloc, b"abcdef")?;
+    let journal = Vec::from_slice(alloc, b"xyz")?;
+    MemStore::new(alloc, image, journal, 4, 4, log)
+}
+
+fn holds(rt: &impl Abort, store: &MemStore, image: &[u8], journal: &[u8]) {
+    assert_eq!(*rt; store.image(), image);
+    assert_eq!(*rt; store.journal(), journal);
+}
+
+const READS: &[(Area, u64, Result<[u8; 2], Fault>)] = &[
+    (Area::Image, 2, Ok(*b"cd")),
+    (Area::Journal, 0, Err(Fault)),
+    (Area::Image, 3, Err(Fault)),
+    (Area::Journal, 1, Ok(*b"yz")),
+];
+
 #[test]
 fn a_store_in_memory_fails_where_it_is_told_to(rt: HostRuntime) -> Result<(), Fail> {
-    let image = bytes_of(rt.alloc(), b"abcdef")?;
-    let journal = bytes_of(rt.alloc(), b"xy")?;
-    let mut store = MemStore::new(rt.alloc(), image, journal, 4, 0, 0)?;
-    store.fail_at(vec![in rt.alloc(); 2, 4]?);
-    let mut buf = [0; 3];
-    assert_eq!(rt; store.len(Area::Image), Ok(6));
-    assert_eq!(rt; store.len(Area::Journal), Err(Fault));
-    assert_eq!(rt; store.read_at(Area::Image, 2, &mut buf), Ok(()));
-    assert_eq!(rt; buf.as_slice(), b"cde".as_slice());
-    assert_eq!(rt; store.read_at(Area::Image, 3, &mut buf), Err(Fault));
-    assert_eq!(rt; store.read_at(Area::Journal, 0, &mut buf[..2]), Ok(()));
-    assert_eq!(rt; buf.as_slice(), b"xye".as_slice());
+    let mut store = store_of(rt.alloc(), 0)?;
+    store.fail_at(vec![in rt.alloc(); 3, 5]?);
+    reads(&rt, &mut store, READS);
     assert_eq!(rt; store.faults(), 2);
-    assert_eq!(rt; store.image(), b"abcdef".as_slice());
     Ok(())
 }
 
@@ -71,73 +100,108 @@ fn change_both<S: Store>(store: &mut S) -> Result<u64, Fault> {
 
 #[test]
 fn a_store_in_memory_is_written(rt: HostRuntime) -> Result<(), Fail> {
-    let image = bytes_of(rt.alloc(), b"abcdef")?;
-    let journal = bytes_of(rt.alloc(), b"xyz")?;
-    let mut store = MemStore::new(rt.alloc(), image, journal, 4, 4, 5)?;
+    let mut store = store_of(rt.alloc(), 5)?;
     assert_eq!(rt; change_both(&mut store), Ok(4));
-    assert_eq!(rt; store.image(), b"abXYef".as_slice());
-    assert_eq!(rt; store.journal(), b"x123".as_slice());
     assert_eq!(rt; store.sync(), Err(Fault));
+    holds(&rt, &store, b"abXYef", b"x123");
     Ok(())
 }
+
+const WRITES: &[(Area, u64, &[u8], Result<(), Fault>)] = &[
+    (Area::Journal, 3, b"12", Err(Fault)),
+    (Area::Journal, 3, b"1", Ok(())),
+    (Area::Journal, 0, b"ab", Err(Fault)),
+];
 
 #[test]
 fn a_store_in_memory_is_written_while_there_is_room(rt: HostRuntime) -> Result<(), Fail> {
-    let journal = bytes_of(rt.alloc(), b"x")?;
-    let mut store = MemStore::new(rt.alloc(), Vec::new(rt.alloc()), journal, 4, 9, 4)?;
-    assert_eq!(rt; write(&mut store, Area::Journal, 1, b"1234"), Err(Fault));
-    assert_eq!(rt; write(&mut store, Area::Journal, 1, b"123"), Ok(()));
-    assert_eq!(rt; write(&mut store, Area::Journal, 0, b"ab"), Err(Fault));
-    assert_eq!(rt; store.journal(), b"x123".as_slice());
+    let mut store = store_of(rt.alloc(), 2)?;
+    writes(&rt, &mut store, WRITES);
     assert_eq!(rt; store.faults(), 2);
+    holds(&rt, &store, b"abcdef", b"xyz1");
     Ok(())
 }
 
+/// Reads up to three bytes, and says how many; the rest of the buffer is dashes.
+fn next<R: Source>(source: &mut R) -> Result<(usize, [u8; 3]), Fault> {
+    let mut buf = *b"---";
+    let count = source.read(&mut buf)?;
+    Ok((count, buf))
+}
+
+fn gives<R: Source>(rt: &impl Abort, source: &mut R, answers: &[Result<(usize, [u8; 3]), Fault>]) {
+    for answer in answers {
+        assert_eq!(*rt; next(source), *answer);
+    }
+}
+
+const FAILS_ONCE: &[Result<(usize, [u8; 3]), Fault>] = &[
+    Ok((3, *b"hel")),
+    Err(Fault),
+    Ok((2, *b"lo-")),
+    Ok((0, *b"---")),
+];
+
 #[test]
 fn a_source_in_memory_fails_once(rt: HostRuntime) -> Result<(), Fail> {
-    let mut source = MemSource::new(bytes_of(rt.alloc(), b"hello")?, Some(2));
-    let mut buf = [0; 3];
-    assert_eq!(rt; source.read(&mut buf), Ok(3));
-    assert_eq!(rt; buf.as_slice(), b"hel".as_slice());
-    assert_eq!(rt; source.read(&mut buf), Err(Fault));
-    assert_eq!(rt; source.read(&mut buf), Ok(2));
-    assert_eq!(rt; buf.as_slice(), b"lol".as_slice());
-    assert_eq!(rt; source.read(&mut buf), Ok(0));
+    let mut source = MemSource::new(Vec::from_slice(rt.alloc(), b"hello")?, Some(2));
+    gives(&rt, &mut source, FAILS_ONCE);
     Ok(())
 }
+
+fn takes<K: Sink>(rt: &impl Abort, sink: &mut K, rows: &[(&[u8], Result<usize, Fault>)]) {
+    for (bytes, answer) in rows {
+        assert_eq!(*rt; sink.write(bytes), *answer);
+    }
+}
+
+const ROOM_FOR_FOUR: &[(&[u8], Result<usize, Fault>)] = &[
+    (b"abc", Ok(3)),
+    (b"de", Ok(1)),
+    (b"e", Err(Fault)),
+    (b"", Ok(0)),
+];
 
 #[test]
 fn a_sink_in_memory_takes_what_fits(rt: HostRuntime) -> Result<(), Fail> {
     let mut sink = MemSink::new(rt.alloc(), 4)?;
-    assert_eq!(rt; sink.write(b"abc"), Ok(3));
-    assert_eq!(rt; write_all(&mut sink, b"de"), Err(Fault));
-    assert_eq!(rt; sink.bytes(), b"abcd".as_slice());
-    assert_eq!(rt; sink.write(b""), Ok(0));
-    assert_eq!(rt;
-        write_all(&mut MemSink::new(rt.alloc(), 5)?, b"hello"),
-        Ok(())
-    );
+    takes(&rt, &mut sink, ROOM_FOR_FOUR);
+    assert!(rt; sink.bytes() == b"abcd".as_slice());
     Ok(())
 }
 
 #[test]
-fn a_text_is_read_whole_up_to_the_limit(rt: HostRuntime) -> Result<(), Fail> {
-    let long = vec![in rt.alloc(); b'a'; 9000]?;
-    for (limit, whole) in [(9000, true), (8999, false), (20000, true), (0, false)] {
-        let mut source = MemSource::new(bytes_of(rt.alloc(), &long)?, None);
-        match read_to_end(rt.alloc(), &mut source, limit) {
-            Ok(Some(text)) => assert!(rt; whole && text == long, "at {limit}"),
-            Ok(None) => assert!(rt; !whole, "at {limit}"),
-            Err(_) => panic!(rt; "at {limit}"),
-        }
+fn a_text_is_written_whole_where_it_fits(rt: HostRuntime) -> Result<(), Fail> {
+    let mut short = MemSink::new(rt.alloc(), 4)?;
+    let mut long = MemSink::new(rt.alloc(), 5)?;
+    assert_eq!(rt; write_all(&mut short, b"hello"), Err(Fault));
+    assert_eq!(rt; write_all(&mut long, b"hello"), Ok(()));
+    Ok(())
+}
+
+/// Reads a text of 9000 bytes up to a limit, and says whether it came whole; none where it is too long.
+fn read_long(alloc: Global, limit: usize, fail: Option<u64>) -> Result<Option<bool>, ReadError> {
+    let long = vec![in alloc; b'a'; 9000]?;
+    let mut source = MemSource::new(Vec::from_slice(alloc, &long)?, fail);
+    match read_to_end(alloc, &mut source, limit)? {
+        Some(text) => Ok(Some(text == long)),
+        None => Ok(None),
     }
-    let mut source = MemSource::new(long, Some(2));
-    assert!(rt;
-        matches!(
-            read_to_end(rt.alloc(), &mut source, 9000),
-            Err(ReadError::Fault)
-        )
-    );
+}
+
+const READS_OF_LONG: &[(usize, Option<u64>, Result<Option<bool>, ReadError>)] = &[
+    (9000, None, Ok(Some(true))),
+    (8999, None, Ok(None)),
+    (20000, None, Ok(Some(true))),
+    (0, None, Ok(None)),
+    (9000, Some(2), Err(ReadError::Fault)),
+];
+
+#[test]
+fn a_text_is_read_whole_up_to_the_limit(rt: HostRuntime) -> Result<(), Fail> {
+    for (limit, fail, answer) in READS_OF_LONG {
+        assert_eq!(rt; read_long(rt.alloc(), *limit, *fail), *answer);
+    }
     Ok(())
 }
 
@@ -146,6 +210,20 @@ fn place(rt: &HostRuntime, name: &str) -> io::Result<PathBuf> {
     let id = process::id(rt.process());
     let name = format!(in rt.alloc(); "dfredact-{id}-{name}")?;
     Ok(env::temp_dir(rt)?.join(rt.alloc(), name.as_str())?)
+}
+
+/// A file of a test's own with this text.
+fn file_of(rt: &HostRuntime, name: &str, text: &str) -> io::Result<PathBuf> {
+    let path = place(rt, name)?;
+    fs::write(rt, &path, text)?;
+    Ok(path)
+}
+
+/// Takes the text of a file, which is removed.
+fn taken(rt: &HostRuntime, path: &PathBuf) -> io::Result<String> {
+    let text = fs::read_to_string(rt, path)?;
+    fs::remove_file(rt, path)?;
+    Ok(text)
 }
 
 fn opened(rt: &HostRuntime, path: &PathBuf) -> Opened {
@@ -162,58 +240,53 @@ fn opened_to_write(rt: &HostRuntime, path: &PathBuf) -> Opened {
     }
 }
 
-fn size<S: Store>(rt: &impl Abort, store: &mut S, area: Area) -> u64
-    ensures size { result ≡ size_of area (S.state store.old) }
-    ensures same { S.state store.new ≡ S.state store.old }
-{
-    match store.len(area) {
-        Ok(size) => size,
-        Err(Fault) => panic!(rt; "no size"),
-    }
+fn sizes<S: Store>(
+    rt: &impl Abort,
+    store: &mut S,
+    image: Result<u64, Fault>,
+    journal: Result<u64, Fault>,
+) {
+    assert_eq!(*rt; store.len(Area::Image), image);
+    assert_eq!(*rt; store.len(Area::Journal), journal);
 }
+
+const WHOLE: &[(Area, u64, Result<[u8; 2], Fault>)] = &[(Area::Image, 2, Ok(*b"cd"))];
+
+const CUT: &[(Area, u64, Result<[u8; 2], Fault>)] = &[(Area::Image, 2, Err(Fault))];
 
 #[test]
 fn a_store_reads_a_file_until_it_is_cut(rt: HostRuntime) -> Result<(), Fail> {
-    let path = place(&rt, "image")?;
-    fs::write(&rt, &path, "abcdef")?;
+    let path = file_of(&rt, "image", "abcdef")?;
     let mut store = FileStore::new(opened(&rt, &path), Opened::Absent);
-    let mut buf = [0; 3];
-    assert_eq!(rt; size(&rt, &mut store, Area::Image), 6);
-    assert_eq!(rt; store.read_at(Area::Image, 2, &mut buf), Ok(()));
-    assert_eq!(rt; buf.as_slice(), b"cde".as_slice());
-    assert_eq!(rt; store.len(Area::Journal), Ok(0));
-    assert_eq!(rt; store.read_at(Area::Journal, 0, &mut []), Ok(()));
-    fs::write(&rt, &path, "abcd")?;
-    assert_eq!(rt; store.len(Area::Image), Ok(6));
-    assert_eq!(rt; store.read_at(Area::Image, 2, &mut buf), Err(Fault));
-    fs::remove_file(&rt, &path)?;
-    Ok(())
+    reads(&rt, &mut store, WHOLE);
+    fs::write(&rt, &path, "abc")?;
+    reads(&rt, &mut store, CUT);
+    sizes(&rt, &mut store, Ok(6), Ok(0));
+    Ok(fs::remove_file(&rt, &path)?)
 }
 
 #[test]
 fn a_store_writes_its_files(rt: HostRuntime) -> Result<(), Fail> {
-    let image = place(&rt, "written")?;
-    let journal = place(&rt, "journal")?;
-    fs::write(&rt, &image, "abcdef")?;
-    fs::write(&rt, &journal, "xyz")?;
+    let image = file_of(&rt, "written", "abcdef")?;
+    let journal = file_of(&rt, "journal", "xyz")?;
     let mut store = FileStore::new(opened_to_write(&rt, &image), opened_to_write(&rt, &journal));
-    assert_eq!(rt; change_both(&mut store), Ok(4));
-    assert_eq!(rt; fs::read_to_string(&rt, &image)?.as_str(), "abXYef");
-    assert_eq!(rt; fs::read_to_string(&rt, &journal)?.as_str(), "x123");
-    fs::remove_file(&rt, &image)?;
-    fs::remove_file(&rt, &journal)?;
+    assert!(rt; change_both(&mut store) == Ok(4));
+    assert!(rt; taken(&rt, &image)?.as_str() == "abXYef");
+    assert!(rt; taken(&rt, &journal)?.as_str() == "x123");
     Ok(())
 }
 
+const REFUSED_WRITES: &[(Area, u64, &[u8], Result<(), Fault>)] = &[
+    (Area::Image, 2, b"--", Err(Fault)),
+    (Area::Journal, 0, b"-", Err(Fault)),
+];
+
 #[test]
 fn a_store_that_may_only_read_is_not_written(rt: HostRuntime) -> Result<(), Fail> {
-    let path = place(&rt, "kept")?;
-    fs::write(&rt, &path, "abcdef")?;
+    let path = file_of(&rt, "kept", "abcdef")?;
     let mut store = FileStore::new(opened(&rt, &path), Opened::Absent);
-    assert_eq!(rt; write(&mut store, Area::Image, 2, b"--"), Err(Fault));
-    assert_eq!(rt; write(&mut store, Area::Journal, 0, b"-"), Err(Fault));
-    assert_eq!(rt; fs::read_to_string(&rt, &path)?.as_str(), "abcdef");
-    fs::remove_file(&rt, &path)?;
+    writes(&rt, &mut store, REFUSED_WRITES);
+    assert!(rt; taken(&rt, &path)?.as_str() == "abcdef");
     Ok(())
 }
 
@@ -222,27 +295,22 @@ fn a_store_fails_where_no_file_is(rt: HostRuntime) -> Result<(), Fail> {
     let missing = opened(&rt, &place(&rt, "missing")?);
     let folder = opened(&rt, &env::temp_dir(&rt)?);
     let mut store = FileStore::new(missing, folder);
-    for area in [Area::Image, Area::Journal] {
-        assert_eq!(rt; store.len(area), Err(Fault));
-        assert_eq!(rt; store.read_at(area, 0, &mut []), Err(Fault));
-    }
+    sizes(&rt, &mut store, Err(Fault), Err(Fault));
     Ok(())
 }
 
+const HELLO: &[Result<(usize, [u8; 3]), Fault>] = &[
+    Ok((3, *b"hel")),
+    Ok((2, *b"lo-")),
+    Ok((0, *b"---")),
+];
+
 #[test]
 fn a_source_reads_a_file(rt: HostRuntime) -> Result<(), Fail> {
-    let path = place(&rt, "rules")?;
-    fs::write(&rt, &path, "hello")?;
+    let path = file_of(&rt, "rules", "hello")?;
     let mut source = StdSource::new(Some(File::open(&rt, &path)?));
-    fs::remove_file(&rt, &path)?;
-    let mut buf = [0; 8];
-    assert_eq!(rt; source.read(&mut buf), Ok(5));
-    assert_eq!(rt; &buf[..5], b"hello".as_slice());
-    assert_eq!(rt; source.read(&mut buf), Ok(0));
-    let mut missing = StdSource::new(File::open(&rt, &path).ok());
-    assert_eq!(rt; missing.read(&mut buf), Err(Fault));
-    assert_eq!(rt; missing.read(&mut []), Err(Fault));
-    Ok(())
+    gives(&rt, &mut source, HELLO);
+    Ok(fs::remove_file(&rt, &path)?)
 }
 
 /// What a reader or a writer of the tests answers, call after call.
@@ -279,34 +347,54 @@ impl Write for Answers {
     }
 }
 
+/// A device that is interrupted once, and then moves two bytes, moves none and fails.
+fn device(alloc: Global) -> Result<Answers, AllocError> {
+    Ok(Answers {
+        left: vec![in alloc;
+            Err(ErrorKind::Other),
+            Ok(0),
+            Ok(2),
+            Err(ErrorKind::Interrupted),
+        ]?,
+    })
+}
+
+const READS_OF_DEVICE: &[Result<(usize, [u8; 3]), Fault>] = &[
+    Ok((2, *b"---")),
+    Ok((0, *b"---")),
+    Err(Fault),
+];
+
 #[test]
-fn a_call_that_was_interrupted_is_made_again(rt: HostRuntime) -> Result<(), Fail> {
-    let answers = vec![in rt.alloc(); Err(ErrorKind::Other), Ok(2), Err(ErrorKind::Interrupted)]?;
-    let mut source = StdSource::new(Some(Answers { left: answers }));
-    assert_eq!(rt; source.read(&mut [0; 3]), Ok(2));
-    assert_eq!(rt; source.read(&mut [0; 3]), Err(Fault));
-    let answers = vec![in rt.alloc();
-        Err(ErrorKind::BrokenPipe),
-        Ok(0),
-        Ok(2),
-        Err(ErrorKind::Interrupted),
-    ]?;
-    let mut sink = StdSink::new(Answers { left: answers });
-    assert_eq!(rt; sink.write(b"abc"), Ok(2));
-    assert_eq!(rt; sink.write(b"c"), Err(Fault));
-    assert_eq!(rt; sink.write(b"c"), Err(Fault));
-    assert_eq!(rt; sink.write(b""), Ok(0));
+fn a_read_that_was_interrupted_is_made_again(rt: HostRuntime) -> Result<(), Fail> {
+    let mut source = StdSource::new(Some(device(rt.alloc())?));
+    gives(&rt, &mut source, READS_OF_DEVICE);
     Ok(())
+}
+
+const WRITES_TO_DEVICE: &[(&[u8], Result<usize, Fault>)] = &[
+    (b"abc", Ok(2)),
+    (b"c", Err(Fault)),
+    (b"c", Err(Fault)),
+    (b"", Ok(0)),
+];
+
+#[test]
+fn a_write_that_was_interrupted_is_made_again(rt: HostRuntime) -> Result<(), Fail> {
+    let mut sink = StdSink::new(device(rt.alloc())?);
+    takes(&rt, &mut sink, WRITES_TO_DEVICE);
+    Ok(())
+}
+
+fn written_to(file: File) -> Result<(), Fault> {
+    write_all(&mut StdSink::new(file), b"hello")
 }
 
 #[test]
 fn a_sink_writes_a_file(rt: HostRuntime) -> Result<(), Fail> {
     let path = place(&rt, "report")?;
-    let mut sink = StdSink::new(File::create(&rt, &path)?);
-    assert_eq!(rt; write_all(&mut sink, b"hello"), Ok(()));
-    assert_eq!(rt; fs::read_to_string(&rt, &path)?.as_str(), "hello");
-    let mut closed = StdSink::new(File::open(&rt, &path)?);
-    assert_eq!(rt; write_all(&mut closed, b"hello"), Err(Fault));
-    fs::remove_file(&rt, &path)?;
+    assert_eq!(rt; written_to(File::create(&rt, &path)?), Ok(()));
+    assert_eq!(rt; written_to(File::open(&rt, &path)?), Err(Fault));
+    assert!(rt; taken(&rt, &path)?.as_str() == "hello");
     Ok(())
 }
