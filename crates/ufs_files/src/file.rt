@@ -1,5 +1,5 @@
 //! Files, made from their inodes, names and parts.
-ghost use Rattle.std.specs.Prelude.{◌≡◌, All};
+ghost use Rattle.std.specs.Prelude.{◌≡◌, All, IfOk};
 ghost use Rattle.order_defs.specs.Sorted.{sorted_names};
 ghost use Rattle.rx_ranges.specs.Path.{IsPath};
 ghost use Rattle.rx_tree.specs.PartOrder.{ArePartsSorted};
@@ -7,7 +7,7 @@ ghost use Rattle.ufs_volume_defs.specs.Files as spec;
 ghost use Rattle.ufs_volume_defs.specs.Files.{file_of};
 
 use crate::group::Group;
-use rx_ranges::Text;
+use rx_ranges::{NoMemory, Text};
 use rx_time::Moment;
 use rx_tree::{FileEntry, FileId, Kind, Names, Part, Parts, Times};
 use ufs_inode_defs::{Inode, Super};
@@ -51,13 +51,18 @@ fn names_of(mut paths: Vec<Text>) -> Names
 }
 
 /// The file of a group of names in a volume, with these parts.
-pub(crate) fn file_from(sup: &Super, volume: u32, group: Group, parts: Vec<Part>) -> FileEntry
+pub(crate) fn file_from(
+    sup: &Super,
+    volume: u32,
+    group: Group,
+    parts: Vec<Part>,
+) -> Result<FileEntry, NoMemory>
     requires paths { All IsPath group.paths }
     requires sorted { ArePartsSorted parts.items }
-    ensures { result ≡ file_of sup.now volume group.number group.inode group.paths parts.items }
+    ensures { IfOk result (λ file. file ≡ file_of sup.now volume group.number group.inode group.paths parts.items) }
 {
     let inode = group.inode.inode();
-    FileEntry {
+    Ok(FileEntry {
         id: FileId {
             volume,
             number: u64::from(group.number),
@@ -68,7 +73,7 @@ pub(crate) fn file_from(sup: &Super, volume: u32, group: Group, parts: Vec<Part>
         uid: Some(inode.uid),
         gid: Some(inode.gid),
         times: times_of(sup, &inode),
-        names: names_of(group.paths),
+        names: names_of(group.paths.into_vec()?),
         parts: Parts::from_vec(parts),
-    }
+    })
 }

@@ -2,8 +2,9 @@
 ghost use Rattle.std.specs.Prelude.{◌≡◌, IfOk};
 ghost use Rattle.ufs_files.specs.Groups.{AreGroupsOf, with_name};
 
+use crate::paths::Paths;
 use crate::rest::Rest;
-use rx_ranges::{NoMemory, Text};
+use rx_ranges::NoMemory;
 use std::alloc::Global;
 use std::marker::Model;
 use ufs_names::{KeptInode, Name};
@@ -13,7 +14,7 @@ use ufs_names::{KeptInode, Name};
 pub(crate) struct Group {
     pub(crate) number: u32,
     pub(crate) inode: KeptInode,
-    pub(crate) paths: Vec<Text>,
+    pub(crate) paths: Paths,
 }
 
 impl Model for Group {
@@ -24,7 +25,7 @@ impl Model for Group {
     ghost view = { λ g. record {
       number = g.number;
       inode = g.inode;
-      paths = g.paths.items;
+      paths = g.paths;
     } };
 }
 
@@ -41,7 +42,7 @@ fn add_name(alloc: Global, groups: &mut Vec<Group>, name: Name) -> Result<(), No
     groups.push(Group {
         number: name.number,
         inode: name.inode,
-        paths: vec![in alloc; name.path]?,
+        paths: Paths::of(alloc, name.path),
     })?;
     Ok(())
 }

@@ -15,6 +15,7 @@
 
 mod file;
 mod group;
+mod paths;
 mod rest;
 mod second;
 mod tree;

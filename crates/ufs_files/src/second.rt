@@ -68,7 +68,7 @@ impl Filed {
         ensures { IfOk result (λ filed. filed ≡ with_group sup.now volume self group parted) }
     {
         self.files
-            .push(file_from(sup, volume, group, parted.parts))?;
+            .push(file_from(sup, volume, group, parted.parts)?)?;
         self.runs = parted.runs;
         Ok(self)
     }

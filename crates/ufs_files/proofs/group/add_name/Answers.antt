@@ -7,14 +7,14 @@ use Rattle.ufs_files.proofs.group.add_name.Goals as goal
 
 pub returns : goal.returns
 returns c =
-    pushed_last c.args.groups.now.items _ c.in-Some.last.now _ c.push.new.self.items c.args.name _ c.args.groups.now.ok.0 (some_last _ c.in-Some.ensures.variant) c.in-Some.ensures.value c.last.view_is c.name.view_is
-    c.if-last-name.true c.in_ok-push.ensures.items
+    pushed_last c.args.groups.now.items _ c.in-Some.last.now _ c.push.new.self c.args.name _ c.args.groups.now.ok.0 (some_last _ c.in-Some.ensures.variant) c.in-Some.ensures.value c.last.view_is c.name.view_is
+    c.if-last-name.true c.in_ok-push.ensures
 
 pub returns-2 : goal.returns-2
 returns-2 c =
     let name : Named = record { number = c.name.inside.number; inode = c.name.inside.inode; path = c.name.inside.path; directory = c.name.inside.directory; offset = c.name.inside.offset } in
-    let pushed : c.push-3.new.self.items ≡ c.in_default.groups.items ++ group_of name ∷ [] =
-    c.in_ok-push-2.ensures.items ∙ ap (λ paths. c.in_default.groups.items ++ record { number = c.name.inside.number; inode = c.name.inside.inode; paths = paths } ∷ []) c.in_ok-vec.ensures.items in
+    let pushed : c.push-2.new.self.items ≡ c.in_default.groups.items ++ group_of name ∷ [] =
+    c.in_ok-push-2.ensures.items ∙ ap (λ paths. c.in_default.groups.items ++ record { number = c.name.inside.number; inode = c.name.inside.inode; paths = paths } ∷ []) c.of.ensures in
     elim c.in_default.branch [
       | in_default-via-in-None-1 w ↦
           pushed ∙ ap (λ groups. groups.items ++ group_of name ∷ []) w.groups-is
