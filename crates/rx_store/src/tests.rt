@@ -293,8 +293,8 @@ fn a_store_that_may_only_read_is_not_written(rt: HostRuntime) -> Result<(), Fail
 #[test]
 fn a_store_fails_where_no_file_is(rt: HostRuntime) -> Result<(), Fail> {
     let missing = opened(&rt, &place(&rt, "missing")?);
-    let folder = opened(&rt, &env::temp_dir(&rt)?);
-    let mut store = FileStore::new(missing, folder);
+    let directory = opened(&rt, &env::temp_dir(&rt)?);
+    let mut store = FileStore::new(missing, directory);
     sizes(&rt, &mut store, Err(Fault), Err(Fault));
     Ok(())
 }
