@@ -5,7 +5,7 @@ ghost use Rattle.rx_tree.specs.Within.{AreRangesWithin, ArePartsWithin};
 
 use super::*;
 use rule_defs::{Action, Condition, Rule};
-use rx_ranges::{ListKind, NoMemory, Piece, PieceKind, Pieces, Text};
+use rx_ranges::{ListKind, Listed, NoMemory, Piece, PieceKind, Pieces, Text};
 use rx_store::MemStore;
 use rx_tree::{
     FileEntry, FileId, Files, FsKind, Kind, NO_TIMES, Names, Part, Parts, Role, Volume, Volumes,
@@ -111,30 +111,40 @@ fn plan(alloc: Global, guard: Vec<Range>) -> Result<Result<Plan, PlanFault>, NoM
     Ok(make_plan(alloc, &mut store, &tree(alloc, guard)?, &rules))
 }
 
+/// The first rule has the bytes that two files share, and the slack of the first file isn't filled for it.
+const FILLED: &[Claim] = &[
+    Claim {
+        range: Range { at: 8, len: 6 },
+        rule: 1,
+        fill: 0x2A,
+    },
+    Claim {
+        range: Range { at: 14, len: 2 },
+        rule: 2,
+        fill: 0x31,
+    },
+];
+
+const LINES: &[(ListKind, u32, &str)] = &[
+    (ListKind::File, 1, "/home/key"),
+    (ListKind::File, 2, "/copy"),
+    (ListKind::Alias, 0, "/key/other"),
+];
+
+fn is_listed(line: &Listed, kind: ListKind, rule: u32, path: &str) -> bool {
+    line.kind == kind && line.rule == rule && line.path.as_str() == path
+}
+
 #[test]
 fn the_first_of_two_rules_has_the_shared_bytes(rt: HostRuntime) -> Result<(), Fail> {
-    let Ok(plan) = plan(rt.alloc(), vec![in rt.alloc(); Range { at: 0, len: 8 }]?)? else {
-        panic!(rt; "it is refused");
-    };
-    assert_eq!(rt; plan.image_len, 64);
-    let claim = |at, len, rule, fill| Claim {
-        range: Range { at, len },
-        rule,
-        fill,
-    };
-    let filled = [claim(8, 6, 1, 0x2A), claim(14, 2, 2, 0x31)];
-    assert_eq!(rt; plan.ranges.items(), filled.as_slice());
-    let wanted = [
-        (ListKind::File, 1, "/home/key"),
-        (ListKind::File, 2, "/copy"),
-        (ListKind::Alias, 0, "/key/other"),
-    ];
+    let guard = vec![in rt.alloc(); Range { at: 0, len: 8 }]?;
+    let plan = plan(rt.alloc(), guard)?.ok().ok_or("it is refused")?;
+    assert!(rt; plan.image_len == 64);
+    assert_eq!(rt; plan.ranges.items(), FILLED);
     let lines = plan.listing.items();
-    assert_eq!(rt; lines.len(), wanted.len());
-    for (line, (kind, number, path)) in lines.iter().zip(wanted) {
-        assert_eq!(rt; line.kind, kind);
-        assert_eq!(rt; line.rule, number);
-        assert_eq!(rt; line.path.as_str(), path);
+    assert!(rt; lines.len() == LINES.len());
+    for (line, (kind, rule, path)) in lines.iter().zip(LINES) {
+        assert!(rt; is_listed(line, *kind, *rule, path), "{path}");
     }
     Ok(())
 }
