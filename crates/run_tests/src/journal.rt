@@ -4,7 +4,7 @@ ghost use Rattle.disk_defs.specs.Disk.{size_of, ReadsFrom};
 ghost use Rattle.disk_defs.specs.Count.{IsCountedIn};
 ghost use Rattle.disk_defs.specs.Memory.{state_in_memory};
 
-use crate::plan::{REPORT, RULE, words_of};
+use crate::plan::{REPORT, RULE, answers, words_of};
 use crate::small_image::small_image;
 use redact_cmd::{Status, run};
 use rx_store::{Area, Fault, MemSink, MemSource, MemStore, Store};
@@ -91,9 +91,7 @@ fn small_store(alloc: Global) -> Result<MemStore, AllocError> {
 fn no_call_after_the_tenth(rt: HostRuntime) -> Result<(), Fail> {
     let mut store = small_store(rt.alloc())?;
     store.fail_at((11..40).collect(rt.alloc())?);
-    let (status, text) = planned(rt.alloc(), &mut store)?;
-    assert_eq!(rt; status, Status::Done);
-    assert_eq!(rt; text.as_slice(), REPORT);
+    answers(&rt, planned(rt.alloc(), &mut store)?, Status::Done, REPORT);
     assert_eq!(rt; store.faults(), 0);
     Ok(())
 }
@@ -104,9 +102,7 @@ fn no_call_on_a_journal_that_fails(rt: HostRuntime) -> Result<(), Fail> {
         store: small_store(rt.alloc())?,
         failed: 0,
     };
-    let (status, text) = planned(rt.alloc(), &mut store)?;
-    assert_eq!(rt; status, Status::Done);
-    assert_eq!(rt; text.as_slice(), REPORT);
+    answers(&rt, planned(rt.alloc(), &mut store)?, Status::Done, REPORT);
     assert_eq!(rt; store.failed, 0);
     Ok(())
 }

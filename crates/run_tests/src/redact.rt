@@ -1,9 +1,10 @@
 //! The commands `redact`, `resume` and `report` on the small image, one after the other.
-use crate::plan::{RULE, words_of};
+use crate::plan::{RULE, answers, words_of};
 use crate::small_image::{FILE, put, put_inode, small_image};
 use redact_cmd::{JournalRefusal, PlanRefusal, Status, run};
 use rx_store::{MemSink, MemSource, MemStore};
 use std::alloc::{AllocError, Global};
+use std::process::Abort;
 use std::test::Fail;
 
 const DONE: &[u8] =
@@ -56,26 +57,28 @@ fn filled_image(alloc: Global) -> Result<Vec<u8>, AllocError> {
     Ok(image)
 }
 
+/// Compares what a store holds with what is wanted.
+fn holds(rt: &impl Abort, store: &MemStore, image: &[u8], journal: &[u8]) {
+    assert!(*rt; store.image() == image);
+    assert_eq!(*rt; store.journal(), journal);
+}
+
 #[test]
 fn the_small_image_is_redacted(rt: HostRuntime) -> Result<(), Fail> {
     let alloc = rt.alloc();
     let filled = filled_image(alloc)?;
     let mut store = store_of(alloc, small_image(alloc)?, &[])?;
-    let (status, text) = ran(alloc, &REDACT, &mut store)?;
-    assert_eq!(rt; status, Status::Done);
-    assert_eq!(rt; text.as_slice(), DONE);
-    assert!(rt; store.image() == filled.as_slice());
-    assert_eq!(rt; store.journal(), FILLED.as_slice());
-    let (status, text) = ran(alloc, &REDACT, &mut store)?;
-    assert_eq!(rt; status, Status::JournalOpen);
-    assert!(rt; text.is_empty());
-    for words in [RESUME.as_slice(), REPORT.as_slice()] {
-        let (status, text) = ran(alloc, words, &mut store)?;
-        assert_eq!(rt; status, Status::Done);
-        assert_eq!(rt; text.as_slice(), DONE);
-    }
-    assert!(rt; store.image() == filled.as_slice());
-    assert_eq!(rt; store.journal(), FILLED.as_slice());
+    answers(&rt, ran(alloc, &REDACT, &mut store)?, Status::Done, DONE);
+    holds(&rt, &store, &filled, &FILLED);
+    answers(
+        &rt,
+        ran(alloc, &REDACT, &mut store)?,
+        Status::JournalOpen,
+        b"",
+    );
+    answers(&rt, ran(alloc, &RESUME, &mut store)?, Status::Done, DONE);
+    answers(&rt, ran(alloc, &REPORT, &mut store)?, Status::Done, DONE);
+    holds(&rt, &store, &filled, &FILLED);
     Ok(())
 }
 
@@ -85,11 +88,8 @@ fn another_content_ends_alike(rt: HostRuntime) -> Result<(), Fail> {
     let mut image = small_image(alloc)?;
     put(&mut image, 86_016, b"xyz");
     let mut store = store_of(alloc, image, &[])?;
-    let (status, text) = ran(alloc, &REDACT, &mut store)?;
-    assert_eq!(rt; status, Status::Done);
-    assert_eq!(rt; text.as_slice(), DONE);
-    assert!(rt; store.image() == filled_image(alloc)?.as_slice());
-    assert_eq!(rt; store.journal(), FILLED.as_slice());
+    answers(&rt, ran(alloc, &REDACT, &mut store)?, Status::Done, DONE);
+    holds(&rt, &store, &filled_image(alloc)?, &FILLED);
     Ok(())
 }
 
@@ -100,35 +100,33 @@ fn what_was_pending_is_resumed(rt: HostRuntime) -> Result<(), Fail> {
     open[73] = 0;
     open[74] = 0;
     let mut store = store_of(alloc, small_image(alloc)?, &open)?;
-    let (status, text) = ran(alloc, &REPORT, &mut store)?;
-    assert_eq!(rt; status, Status::Done);
-    assert_eq!(rt; text.as_slice(), PENDING);
-    let (status, text) = ran(alloc, &RESUME, &mut store)?;
-    assert_eq!(rt; status, Status::Done);
-    assert_eq!(rt; text.as_slice(), DONE);
-    assert!(rt; store.image() == filled_image(alloc)?.as_slice());
-    assert_eq!(rt; store.journal(), FILLED.as_slice());
+    answers(&rt, ran(alloc, &REPORT, &mut store)?, Status::Done, PENDING);
+    answers(&rt, ran(alloc, &RESUME, &mut store)?, Status::Done, DONE);
+    holds(&rt, &store, &filled_image(alloc)?, &FILLED);
     Ok(())
 }
 
 #[test]
 fn journals_that_hold_no_plan_are_refused(rt: HostRuntime) -> Result<(), Fail> {
     let alloc = rt.alloc();
-    let cases = [(40, JournalRefusal::NotOpen), (74, JournalRefusal::Bad(24))];
-    for (len, refusal) in cases {
+    for (len, refusal) in [(40, JournalRefusal::NotOpen), (74, JournalRefusal::Bad(24))] {
+        let status = Status::JournalRefused(refusal);
         let mut store = store_of(alloc, small_image(alloc)?, &FILLED[..len])?;
-        for words in [RESUME.as_slice(), REPORT.as_slice()] {
-            let (status, text) = ran(alloc, words, &mut store)?;
-            assert_eq!(rt; status, Status::JournalRefused(refusal));
-            assert!(rt; text.is_empty());
-        }
+        answers(&rt, ran(alloc, &RESUME, &mut store)?, status, b"");
+        answers(&rt, ran(alloc, &REPORT, &mut store)?, status, b"");
     }
+    Ok(())
+}
+
+#[test]
+fn an_image_of_another_length_is_refused(rt: HostRuntime) -> Result<(), Fail> {
+    let alloc = rt.alloc();
     let mut longer = small_image(alloc)?;
     longer.push(0)?;
     let mut store = store_of(alloc, longer, &FILLED)?;
-    let (status, _) = ran(alloc, &RESUME, &mut store)?;
     let refusal = JournalRefusal::OtherLength(262_144, 262_145);
-    assert_eq!(rt; status, Status::JournalRefused(refusal));
+    let found = ran(alloc, &RESUME, &mut store)?;
+    answers(&rt, found, Status::JournalRefused(refusal), b"");
     Ok(())
 }
 
@@ -139,12 +137,10 @@ fn a_plan_that_meets_the_guard_changes_nothing(rt: HostRuntime) -> Result<(), Fa
     put_inode(&mut image, FILE, 0x81A4, 3, 20);
     let before = Vec::from_slice(alloc, &image)?;
     let mut store = store_of(alloc, image, b"old")?;
-    let (status, text) = ran(alloc, &REDACT, &mut store)?;
     let refusal = PlanRefusal::MeetsGuard(81_920, 1);
-    assert_eq!(rt; status, Status::PlanRefused(refusal));
-    assert!(rt; text.is_empty());
-    assert!(rt; store.image() == before.as_slice());
-    assert_eq!(rt; store.journal(), b"old".as_slice());
+    let found = ran(alloc, &REDACT, &mut store)?;
+    answers(&rt, found, Status::PlanRefused(refusal), b"");
+    holds(&rt, &store, &before, b"old");
     Ok(())
 }
 
@@ -153,14 +149,15 @@ fn a_session_that_fails_leaves_what_it_made(rt: HostRuntime) -> Result<(), Fail>
     let alloc = rt.alloc();
     let mut store = store_of(alloc, small_image(alloc)?, &[])?;
     store.fail_at((21..90).collect(alloc)?);
-    let (status, text) = ran(alloc, &REDACT, &mut store)?;
-    assert_eq!(rt; status, Status::DeviceFault);
-    assert!(rt; text.is_empty());
+    answers(
+        &rt,
+        ran(alloc, &REDACT, &mut store)?,
+        Status::DeviceFault,
+        b"",
+    );
     assert!(rt; store.image() == small_image(alloc)?.as_slice());
     store.fail_at(Vec::new(alloc));
-    let (status, text) = ran(alloc, &RESUME, &mut store)?;
-    assert_eq!(rt; status, Status::Done);
-    assert_eq!(rt; text.as_slice(), DONE);
+    answers(&rt, ran(alloc, &RESUME, &mut store)?, Status::Done, DONE);
     assert!(rt; store.image() == filled_image(alloc)?.as_slice());
     Ok(())
 }
