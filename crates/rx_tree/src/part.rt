@@ -23,11 +23,11 @@ pub enum Role {
 #[derive(Debug, Drop)]
 pub struct Part {
     pub role: Role,
+    pub unreadable: bool,
     pub name: Text,
     pub size: u64,
     pub pieces: Pieces,
     pub slack: RangeList,
-    pub unreadable: bool,
 }
 
 impl Model for Part {
