@@ -15,6 +15,5 @@ mod tests;
 pub(crate) mod written;
 
 pub use decode::decode_runs;
-pub use ntfs_defs::RunFault;
-pub use ntfs_defs::Run;
+pub use ntfs_defs::{Run, RunFault};
 pub use runs::Runs;

@@ -11,7 +11,7 @@ use Rattle.text_defs.specs.Report.{report}
 use Rattle.text_defs.specs.declared.ReportState.TheVariants.{Planned}
 use Rattle.cmd_defs.specs.declared.status.Status.{Status}
 use Rattle.cmd_defs.specs.Outcome.{IfBothTold}
-use Rattle.cmd_defs.specs.PlanCommand.{RefusesImage, PlanSays, HasReport}
+use Rattle.cmd_defs.specs.PlanCommand.{RefusesImage, PlanSays, HasReport, SaysRules}
 use Rattle.rule_parse.specs.declared.RuleFault.{RuleFault}
 use Rattle.rule_parse.specs.declared.RuleFault.TheVariants as rules
 use Rattle.rx_plan.specs.declared.PlanFault.{PlanFault}
@@ -40,6 +40,11 @@ rules_say (Some t) (Some i) W P rules.NoMemory other = tt
 pub rules_refused : (text image : Option (List ℕ)) (W P : List ℕ → Type 0) (fault : RuleFault) (status : Status) → status ≡ status_of_rules fault
     → (fault ≡ rules.OtherForm → IfSome text SaysNoRules) → IfBothTold text image (λ t i. PlanSays status t i W P)
 rules_refused text image W P fault status is other = told_of text image W P status (status_of_rules fault) is (rules_say text image W P fault other)
+
+-- a text that was read says its rules
+pub says_rules : (text : Option (List ℕ)) (rules : List Rule) → IfSome text (λ t. Reads t rules) → IfSome text SaysRules
+says_rules None rules reads = tt
+says_rules (Some t) rules reads = (rules, reads)
 
 -- the image has no tree for this reason
 refuses : (text image : List ℕ) (rules : List Rule) (refusal : Refusal) → Reads text rules → HasTree image (Err refusal) → RefusesImage refusal text image

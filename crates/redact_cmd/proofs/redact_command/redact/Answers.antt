@@ -7,6 +7,7 @@ use Rattle.journal_defs.specs.Form.{IsOpen}
 use Rattle.image_reader.specs.Says.{HasTree, TellsTree}
 use Rattle.cmd_defs.proofs.StoreLaws.{of_area, of_synced}
 use Rattle.redact_cmd.proofs.Redacting.{no_rules, failed_before, journal_open, no_tree, no_plan, sized_plan, begun_sizes, redact_stopped, redacted}
+use Rattle.redact_cmd.proofs.Says.{says_rules}
 use Rattle.redact_cmd.proofs.redact_command.redact.Goals as goal
 
 pub returns-in-Err-clause-says : goal.returns-in-Err-clause-says
@@ -69,6 +70,9 @@ returns-in-Err-finish-clause-says g c =
     let synced = planned ∙ c.in-Ok-read_image.ensures.same ∙ is in
     redact_stopped _ (held before) before (g.S.Store.state c.make_plan.new.store) (g.S.Store.state c.finish.new.store) (λ text. Unit {0}) (λ text. Unit {0}) c.in-Ok.rules c.in-Ok-read_image.tree c.in-Ok-make_plan.plan c.in-Ok-begin.session
     c.in-Ok-make_plan.ensures.plan c.in-Ok-make_plan.ensures.is_plan c.in-Ok-begin.ensures synced c.in-Err-finish.ensures.stopped c.in-Ok.ensures.read closed tree_is c.in-Ok-make_plan.ensures.unguarded
+
+pub returns-in-Err-finish-clause-rules_first : goal.returns-in-Err-finish-clause-rules_first
+returns-in-Err-finish-clause-rules_first g c = λ is. says_rules _ c.in-Ok.rules c.in-Ok.ensures.read
 
 pub returns-in-Ok-write_report-clause-says : goal.returns-in-Ok-write_report-clause-says
 returns-in-Ok-write_report-clause-says g c =
