@@ -105,7 +105,7 @@ image = Image(options.file, count + 3)
 names = [(2, 4, b"."), (2, 4, b"..")]
 if options.pieces:
     names.append((3, 8, b"a"))
-    places = [image.take(), image.take()]
+    places = [image.take(2), image.take()]  # a block lies between them, so that each block is a piece of its own
     pointers = [places[i % 2] for i in range(options.pieces)]
     image.inode(3, 0x81A4, options.pieces * BLOCK, pointers)
 for i in range(options.files):
