@@ -22,29 +22,41 @@ fn set_of(alloc: Global, ranges: Vec<Range>) -> Result<RangeList, NoMemory>
     RangeList::from_ranges(alloc, ranges)
 }
 
-fn content(alloc: Global, at: u64, len: u64, slack: RangeList) -> Result<Part, NoMemory>
-    requires some { 0 < len }
-    requires fits { at + len ≤ LEN }
+/// A part whose bytes are this range.
+fn content(alloc: Global, range: Range, slack: RangeList) -> Result<Part, NoMemory>
+    requires some { 0 < range.len }
+    requires fits { range.at + range.len ≤ LEN }
     requires slack_fits { AreRangesWithin LEN slack }
     ensures { IfOk result (λ part. ArePartsWithin LEN (part ∷ [])) }
 {
     let piece = Piece {
         from: 0,
-        len,
+        len: range.len,
         kind: PieceKind::Disk,
-        at,
+        at: range.at,
     };
     Ok(Part {
         role: Role::Content,
         name: Text::from_str(alloc, "")?,
-        size: len,
+        size: range.len,
         pieces: Pieces::from_vec(vec![in alloc; piece]?),
         slack,
         unreadable: false,
     })
 }
 
-fn file(alloc: Global, number: u64, path: &str, part: Part) -> Result<FileEntry, NoMemory>
+/// A content in this range, with this slack.
+fn part(alloc: Global, range: Range, slack: Range) -> Result<Part, NoMemory>
+    requires some { 0 < range.len }
+    requires fits { range.at + range.len ≤ LEN }
+    requires slack_fits { AreRangesWithin LEN (slack ∷ []) }
+    ensures { IfOk result (λ part. ArePartsWithin LEN (part ∷ [])) }
+{
+    let slack = set_of(alloc, vec![in alloc; slack]?)?;
+    content(alloc, range, slack)
+}
+
+fn entry(alloc: Global, number: u64, path: &str, part: Part) -> Result<FileEntry, NoMemory>
     requires parts { ArePartsWithin LEN (part ∷ []) }
     requires path { IsPath path.now }
     ensures names { IfOk result (λ file. file.names ≡ path.now ∷ []) }
@@ -64,17 +76,37 @@ fn file(alloc: Global, number: u64, path: &str, part: Part) -> Result<FileEntry,
     })
 }
 
+/// A file with a content in this range, and with this slack.
+fn file(
+    alloc: Global,
+    number: u64,
+    path: &str,
+    range: Range,
+    slack: Range,
+) -> Result<FileEntry, NoMemory>
+    requires some { 0 < range.len }
+    requires fits { range.at + range.len ≤ LEN }
+    requires slack_fits { AreRangesWithin LEN (slack ∷ []) }
+    requires path { IsPath path.now }
+    ensures names { IfOk result (λ file. file.names ≡ path.now ∷ []) }
+    ensures id { IfOk result (λ file. file.id ≡ record { volume = 1; number = number }) }
+    ensures within { IfOk result (λ file. ArePartsWithin LEN file.parts) }
+{
+    let part = part(alloc, range, slack)?;
+    entry(alloc, number, path, part)
+}
+
+const NOTHING: Range = Range { at: 0, len: 0 };
+
 /// One volume, the whole image: a file whose content lies from 8 to 14 with slack up to 16, one that shares the last two
 /// of these bytes and one that shares the slack; and a guard.
 fn tree(alloc: Global, guard: Vec<Range>) -> Result<Tree, NoMemory>
     requires { AreRangesWithin LEN guard.items }
 {
-    let slack = set_of(alloc, vec![in alloc; Range { at: 14, len: 2 }]?)?;
-    let key = file(alloc, 4, "/home/key", content(alloc, 8, 6, slack)?)?;
-    let slack = set_of(alloc, Vec::new(alloc))?;
-    let shares = file(alloc, 5, "/copy", content(alloc, 12, 4, slack)?)?;
-    let slack = set_of(alloc, Vec::new(alloc))?;
-    let apart = file(alloc, 6, "/key/other", content(alloc, 14, 4, slack)?)?;
+    let slack = Range { at: 14, len: 2 };
+    let key = file(alloc, 4, "/home/key", Range { at: 8, len: 6 }, slack)?;
+    let shares = file(alloc, 5, "/copy", Range { at: 12, len: 4 }, NOTHING)?;
+    let apart = file(alloc, 6, "/key/other", Range { at: 14, len: 4 }, NOTHING)?;
     let whole = Volume {
         number: 1,
         kind: FsKind::Ufs2,

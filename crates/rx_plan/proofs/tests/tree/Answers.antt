@@ -15,7 +15,7 @@ all-three P files a b c are first second third =
 
 pub from_vec-requires-2 : goal.from_vec-requires-2
 from_vec-requires-2 c =
-    rw (c.in_ok-vec-3.ensures.items, c.in_ok-key.ensures.id, c.in_ok-shares.ensures.id, c.in_ok-apart.ensures.id)
+    rw (c.in_ok-vec-2.ensures.items, c.in_ok-key.ensures.id, c.in_ok-shares.ensures.id, c.in_ok-apart.ensures.id)
     (refl, (refl, (tt, tt)))
 
 pub invariant_of-result : goal.invariant_of-result
@@ -24,8 +24,8 @@ invariant_of-result c =
     let key = c.in_ok-key in
     let shares = c.in_ok-shares in
     let apart = c.in_ok-apart in
-    let volumes = c.from_vec.ensures ∙ c.in_ok-vec-2.ensures.items in
-    let files = c.from_vec-2.ensures ∙ c.in_ok-vec-3.ensures.items in
+    let volumes = c.from_vec.ensures ∙ c.in_ok-vec.ensures.items in
+    let files = c.from_vec-2.ensures ∙ c.in_ok-vec-2.ensures.items in
     let Within : Volume → Type 0 = λ volume. volume.at + volume.len ≤ 64 in (
       record {
         in_reach = omega arith;
