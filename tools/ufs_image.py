@@ -2,17 +2,20 @@
 """Writes a UFS2 image with many files in its root, or with one file in many pieces, to measure what reading it costs.
 
     python3 tools/ufs_image.py FILE --files COUNT       files f0, f1, .. of three bytes each, a block apart
+    python3 tools/ufs_image.py FILE --files COUNT --scattered      the same, named in no order of their inodes
     python3 tools/ufs_image.py FILE --pieces COUNT      a file `a` whose blocks stand in two places by turns
 
 Blocks are fragments, of 4,096 bytes with --files and of 65,536 with --pieces. The image is a sparse file.
 """
 import argparse
+import random
 import struct
 
 parser = argparse.ArgumentParser(description=__doc__, formatter_class=argparse.RawDescriptionHelpFormatter)
 parser.add_argument("file")
 parser.add_argument("--files", type=int, default=0)
 parser.add_argument("--pieces", type=int, default=0)
+parser.add_argument("--scattered", action="store_true")
 options = parser.parse_args()
 
 BLOCK = 65536 if options.pieces else 4096
@@ -113,6 +116,10 @@ for i in range(options.files):
     block = image.take()
     image.put(block * BLOCK, "3s", b"abc")
     image.inode(i + 3, 0x81A4, 3, [block])
+if options.scattered:
+    files = names[2:]
+    random.Random(1).shuffle(files)
+    names[2:] = files
 content = directory(names)
 blocks = (len(content) + BLOCK - 1) // BLOCK
 first = image.take(blocks)

@@ -1,10 +1,9 @@
 -- The ways of a reader through a program: it begins, a step gives a value or a refusal, a test passes, and it ends.
-use Rattle.std.specs.Prelude.{◌≡◌, ℕ, suc, ◌+◌, ◌<◌, ◌≤◌, Option, Some, None, OnOk, Result, Ok, Err, IsErr, IsErrAnd, List, [], ◌∷◌, ◌++◌, length, drop, get_or}
+use Rattle.std.specs.Prelude.{◌≡◌, ℕ, suc, Bool, refl, ◌+◌, ◌<◌, ◌≤◌, Option, Some, None, OnOk, Result, Ok, Err, IsErr, IsErrAnd, List, ◌++◌, length, drop, get_or}
 use Rattle.std.proofs.Common.{ap, sym, ◌∙◌, subst, arith, append_assoc, append-nil, drop-cons, drop_of_length-le}
 use Rattle.range_defs.specs.declared.Range.{Range}
-use Rattle.std.proofs.lemmas.List.Elements.{All-push}
-use Rattle.image_defs.specs.Ask.{Ask, Done, Stop, result_of, visits, ◌>>=◌}
-use Rattle.image_defs.specs.Standing.{StandsIn, IsCome}
+use Rattle.range_defs.specs.Places.{covers}
+use Rattle.image_defs.specs.Ask.{Ask, Done, Stop, result_of, visits, check, ◌>>=◌}
 use Rattle.image_defs.specs.Through.{through}
 use Rattle.image_defs.proofs.Runs.{result_bind_ok, result_bind_err, visits_bind_ok}
 use Rattle.fault_defs.specs.declared.Refusal.{Refusal}
@@ -13,7 +12,11 @@ use Rattle.rx_store.specs.declared.read_fault.ReadFault.{ReadFault}
 use Rattle.rx_store.specs.declared.read_fault.ReadFault.TheVariants.{Device, NoMemory, NotThis, Damaged, Unsupported, Limit}
 use Rattle.rx_store.specs.Answers.{Answers}
 use Rattle.rx_store.specs.ReadFaults.{fault_of}
-use Rattle.image_reads.specs.Steps.{ReadsAs, IsNoRefusal, EndBy, KeptWithin}
+use Rattle.image_defs.specs.Standing.{StandsIn}
+use Rattle.image_defs.specs.Standing as kept
+use Rattle.image_defs.proofs.Standing as standing
+use Rattle.image_reads.specs.Steps.{ReadsAs, IsCome, SameBytes, IsNoRefusal}
+use Rattle.image_reads.proofs.Bytes.{same_front}
 
 -- a fault says of a program what it says of another that stops with the same refusals
 fault_says : {X Y : Type 0} (fault : ReadFault) (one : Result X Refusal) (other : Result Y Refusal) → ((e : Refusal) → one ≡ Err e → other ≡ Err e)
@@ -25,60 +28,79 @@ fault_says (Damaged sort place) one other onward says = onward (refusal.Damaged 
 fault_says (Unsupported what place) one other onward says = onward (refusal.Unsupported what place) says
 fault_says (Limit bound number) one other onward says = onward (refusal.Limit bound number) says
 
+pub begins : {X : Type 0} (told : Option (List ℕ)) (whole : Ask Refusal X) (before : List Range) → IsCome told whole before whole before
+begins told whole before = record { ranges = before; same = λ byte. refl; stands = standing.begins told whole before }
+
+-- through a test, whose value is known
+pub comes_past : {Y : Type 0} (told : Option (List ℕ)) (whole : Ask Refusal Y) (before : List Range) (test : Bool) (fault : Refusal) (next : Unit {0} → Ask Refusal Y) (now : List Range) (value : Bool)
+    → test ≡ value → IsCome told whole before (check test fault >>= next) now → IsCome told whole before (check value fault >>= next) now
+comes_past told whole before test fault next now value is come =
+    record { ranges = come.ranges; same = come.same; stands = standing.comes_past told whole before test fault next come.ranges value is come.stands }
+
+-- what is left is the same program
+pub comes_to : {X : Type 0} (told : Option (List ℕ)) (whole : Ask Refusal X) (before : List Range) (left other : Ask Refusal X) (looked : List Range) → left ≡ other → IsCome told whole before left looked → IsCome told whole before other looked
+comes_to told whole before left other looked same come = subst (λ ask. IsCome told whole before ask looked) same come
+
 module _ {Y : Type 0} (told : Option (List ℕ)) (whole : Ask Refusal Y) (before : List Range) where
   module _ {X : Type 0} (later : Option (List ℕ)) (step : Ask Refusal X) (next : X → Ask Refusal Y) (now : List Range) (same : later ≡ told) (come : IsCome told whole before (step >>= next) now) where
     -- a step gave a value: what follows it is left
     pub comes_value : (x : X) (looked : List Range) → ReadsAs later step now looked (Ok x) → IsCome told whole before (next x) looked
-    comes_value x looked read = by_told told come (let P : Option (List ℕ) → Type 0 = λ found. ReadsAs found step now looked (Ok x) in subst P same read)
+    comes_value x looked read = by_told told come.stands (let P : Option (List ℕ) → Type 0 = λ found. ReadsAs found step now looked (Ok x) in subst P same read)
       where
-        by_told : (found : Option (List ℕ)) → IsCome found whole before (step >>= next) now → ReadsAs found step now looked (Ok x) → IsCome found whole before (next x) looked
-        by_told None come read = tt
-        by_told (Some image) come read = record {
-          gives = come.gives ∙ result_bind_ok image step next x read.given;
-          looks =
-              come.looks
-              ∙ ap (λ ranges. now ++ ranges) (visits_bind_ok image step next x read.given)
-              ∙ sym (append_assoc now (visits image step) (visits image (next x)))
-              ∙ ap (λ ranges. ranges ++ visits image (next x)) (sym read.looks);
+        by_told : (found : Option (List ℕ)) → kept.IsCome found whole before (step >>= next) come.ranges → ReadsAs found step now looked (Ok x) → IsCome found whole before (next x) looked
+        by_told None stands read = record { ranges = looked; same = λ byte. refl; stands = tt }
+        by_told (Some image) stands read = record {
+          ranges = come.ranges ++ visits image step;
+          same = λ byte. read.looks byte ∙ same_front now come.ranges (visits image step) come.same byte;
+          stands = record {
+            gives = stands.gives ∙ result_bind_ok image step next x read.given;
+            looks =
+                stands.looks
+                ∙ ap (λ ranges. come.ranges ++ ranges) (visits_bind_ok image step next x read.given)
+                ∙ sym (append_assoc come.ranges (visits image step) (visits image (next x)));
+          };
         }
 
     -- a step stopped: the whole stops with the same
     pub comes_fault : (fault : ReadFault) (looked last : List Range) → ReadsAs later step now looked (Err fault) → ReadsAs told whole before last (Err fault)
-    comes_fault fault looked last read = by_told told come (let P : Option (List ℕ) → Type 0 = λ found. ReadsAs found step now looked (Err fault) in subst P same read)
+    comes_fault fault looked last read = by_told told come.stands (let P : Option (List ℕ) → Type 0 = λ found. ReadsAs found step now looked (Err fault) in subst P same read)
       where
-        by_told : (found : Option (List ℕ)) → IsCome found whole before (step >>= next) now → ReadsAs found step now looked (Err fault) → ReadsAs found whole before last (Err fault)
-        by_told None come read = tt
-        by_told (Some image) come read = record {
-          given = fault_says fault (result_of image step) (result_of image whole) (λ e stops. come.gives ∙ result_bind_err image step next e stops) read.given;
+        by_told : (found : Option (List ℕ)) → kept.IsCome found whole before (step >>= next) come.ranges → ReadsAs found step now looked (Err fault) → ReadsAs found whole before last (Err fault)
+        by_told None stands read = tt
+        by_told (Some image) stands read = record {
+          given = fault_says fault (result_of image step) (result_of image whole) (λ e stops. stands.gives ∙ result_bind_err image step next e stops) read.given;
           looks = tt;
         }
 
   -- what is left was read
   pub comes_rest : (later : Option (List ℕ)) (left : Ask Refusal Y) (now looked : List Range) (result : Result Y ReadFault) → later ≡ told → IsCome told whole before left now → ReadsAs later left now looked result → ReadsAs told whole before looked result
-  comes_rest later left now looked result same come read = by_told told come (let P : Option (List ℕ) → Type 0 = λ found. ReadsAs found left now looked result in subst P same read)
+  comes_rest later left now looked result same come read = by_told told come.stands (let P : Option (List ℕ) → Type 0 = λ found. ReadsAs found left now looked result in subst P same read)
     where
-      behind : (image : List ℕ) (result : Result Y ReadFault) → StandsIn image whole before left now → OnOk result (looked ≡ now ++ visits image left) → OnOk result (looked ≡ before ++ visits image whole)
-      behind image (Ok y) come looks = looks ∙ sym come.looks
-      behind image (Err fault) come looks = tt
+      behind : (image : List ℕ) (result : Result Y ReadFault) → StandsIn image whole before left come.ranges → OnOk result (SameBytes looked (now ++ visits image left)) → OnOk result (SameBytes looked (before ++ visits image whole))
+      behind image (Ok y) stands looks = λ byte. looks byte ∙ same_front now come.ranges (visits image left) come.same byte ∙ ap (λ ranges. covers ranges byte) (sym stands.looks)
+      behind image (Err fault) stands looks = tt
 
-      by_told : (found : Option (List ℕ)) → IsCome found whole before left now → ReadsAs found left now looked result → ReadsAs found whole before looked result
-      by_told None come read = tt
-      by_told (Some image) come read = record {
-        given = let P : Result Y Refusal → Type 0 = λ gives. Answers result gives in subst P (sym come.gives) read.given;
-        looks = behind image result come read.looks;
+      by_told : (found : Option (List ℕ)) → kept.IsCome found whole before left come.ranges → ReadsAs found left now looked result → ReadsAs found whole before looked result
+      by_told None stands read = tt
+      by_told (Some image) stands read = record {
+        given = let P : Result Y Refusal → Type 0 = λ gives. Answers result gives in subst P (sym stands.gives) read.given;
+        looks = behind image result stands read.looks;
       }
 
   -- nothing is left
   pub comes_done : (y : Y) (looked : List Range) → IsCome told whole before (Done y) looked → ReadsAs told whole before looked (Ok y)
-  comes_done y looked come = by_told told come
+  comes_done y looked come = by_told told come.stands
     where
-      by_told : (found : Option (List ℕ)) → IsCome found whole before (Done y) looked → ReadsAs found whole before looked (Ok y)
-      by_told None come = tt
-      by_told (Some image) come = record { given = come.gives; looks = sym (append-nil looked) ∙ sym come.looks }
+      by_told : (found : Option (List ℕ)) → kept.IsCome found whole before (Done y) come.ranges → ReadsAs found whole before looked (Ok y)
+      by_told None stands = tt
+      by_told (Some image) stands = record {
+        given = stands.gives;
+        looks = λ byte. come.same byte ∙ ap (λ ranges. covers ranges byte) (sym (append-nil come.ranges) ∙ sym stands.looks);
+      }
 
   -- the program stops
   pub comes_stop : (e : Refusal) (now looked : List Range) → IsCome told whole before (Stop e) now → ReadsAs told whole before looked (Err (fault_of e))
-  comes_stop e now looked come = by_told told come
+  comes_stop e now looked come = by_told told come.stands
     where
       by_fault : (image : List ℕ) (e : Refusal) → result_of image whole ≡ Err e → (let fault : Result Y ReadFault = Err (fault_of e) in Answers fault (result_of image whole))
       by_fault image refusal.NotThis gives = gives
@@ -86,9 +108,9 @@ module _ {Y : Type 0} (told : Option (List ℕ)) (whole : Ask Refusal Y) (before
       by_fault image (refusal.Unsupported what place) gives = gives
       by_fault image (refusal.Limit bound number) gives = gives
 
-      by_told : (found : Option (List ℕ)) → IsCome found whole before (Stop e) now → ReadsAs found whole before looked (Err (fault_of e))
-      by_told None come = tt
-      by_told (Some image) come = record { given = by_fault image e come.gives; looks = tt }
+      by_told : (found : Option (List ℕ)) → kept.IsCome found whole before (Stop e) come.ranges → ReadsAs found whole before looked (Err (fault_of e))
+      by_told None stands = tt
+      by_told (Some image) stands = record { given = by_fault image e stands.gives; looks = tt }
 
   -- the call ends with a fault, handed on by `?`
   pub ends_with : (looked : List Range) (result : Result Y ReadFault) (fault : ReadFault) → IsErr result → IsErrAnd result (λ other. other ≡ fault) → ReadsAs told whole before looked (Err fault) → ReadsAs told whole before looked result
@@ -118,12 +140,6 @@ module _ {Y : Type 0} (told : Option (List ℕ)) (whole : Ask Refusal Y) (before
   nothing_says looked (Damaged sort place) none = absurd none
   nothing_says looked (Unsupported what place) none = absurd none
   nothing_says looked (Limit bound number) none = absurd none
-
--- one more range that ends in time
-pub kept_one : (last : ℕ) (before after : List Range) (at len : ℕ) → at + len ≤ last → after ≡ before ++ record { at = at; len = len } ∷ [] → KeptWithin last before after
-kept_one last before after at len fits kept = λ end enough ends.
-    let P : Range → Type 0 = λ range. range.at + range.len ≤ end in
-    subst (EndBy end) (sym kept) (All-push P before (record { at = at; len = len }) ends (omega (arith, fits, enough)))
 
 -- ---- from item to item
 

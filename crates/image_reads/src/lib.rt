@@ -1,12 +1,13 @@
 //! Reads of an image that are kept, and what a step of a reader answers.
 //!
-//! A reader of a file system keeps the ranges at which it looks: the guard of the tree is made of them. `look_at` reads a range
-//! and keeps it. What a step answers stands in `specs/Steps`: where the store tells its image, a step answers what the program
-//! of the definitions gives, and has kept the ranges at which the program looks.
+//! A reader of a file system keeps the bytes at which it looks, as ranges: the guard of the tree is made of them. `look_at` reads
+//! a range and keeps it; `keep` keeps one that was read before. What a step answers stands in `specs/Steps`: where the store
+//! tells its image, a step answers what the program of the definitions gives, and has kept the bytes at which the program looks.
 //!
 //!     let mut bytes = [0; 512];
 //!     look_at(&mut store, 1024, &mut bytes, &mut looked)?;
-//!     // looked now ends with the range (1024, 512)
+//!     look_at(&mut store, 1536, &mut bytes, &mut looked)?;
+//!     // looked now ends with the range (1024, 1024)
 #![tactic(auto)]
 
 ghost use Rattle.std.specs.Prelude.{◌≡◌, ◌+◌, ◌≤◌, ◌∷◌, [], ◌++◌, length, OnOk, IfErr, IfOk, IfSome};
@@ -15,9 +16,12 @@ ghost use Rattle.disk_defs.specs.Disk.{size_of, told_image};
 ghost use Rattle.disk_defs.specs.declared.Area.TheVariants.{Image};
 ghost use Rattle.image_defs.specs.Ask.{look};
 ghost use Rattle.image_defs.specs.Runs.{with_value};
-ghost use Rattle.image_reads.specs.Steps.{IsNoRefusal, KeptWithin, ReadsAs};
+ghost use Rattle.image_reads.specs.Steps.{IsNoRefusal, KeptWithin, ReadsAs, SameBytes};
 ghost use Rattle.rx_store.specs.ReadFaults.{IsReadCounted};
 
+mod kept;
+
+pub use kept::keep;
 use range_defs::Range;
 use rx_store::{Area, ReadFault, Store};
 use std::alloc::Global;
@@ -31,16 +35,15 @@ pub fn look_at<S: Store>(
 ) -> Result<(), ReadFault>
     requires { at + length buf.old ≤ size_of Image (S.state store.old) }
     ensures bytes { OnOk result (IfSome (told_image (S.state store.old)) (λ image. buf.new ≡ part image at (length buf.old))) }
-    ensures kept { OnOk result (looked.new.items ≡ looked.old.items ++ record { at = at; len = length buf.old } ∷ []) }
+    ensures kept { OnOk result (SameBytes looked.new.items (looked.old.items ++ record { at = at; len = length buf.old } ∷ [])) }
+    ensures kept_within { OnOk result (KeptWithin (at + length buf.old) looked.old.items looked.new.items) }
     ensures calm { IfErr result IsNoRefusal }
     ensures same { S.state store.new ≡ S.state store.old }
     ensures counted { IsReadCounted Image result (S.faults store.old) (S.faults store.new) }
 {
     store.read_at(Area::Image, at, buf)?;
-    looked.push(Range {
-        at,
-        len: buf.len() as u64,
-    })?;
+    let len = buf.len() as u64;
+    keep(looked, Range { at, len })?;
     Ok(())
 }
 

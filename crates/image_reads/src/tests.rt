@@ -22,15 +22,17 @@ fn store_of(alloc: Global, bytes: &[u8]) -> Result<MemStore, AllocError>
 }
 
 #[test]
-fn reads_are_kept(rt: HostRuntime) -> Result<(), Fail> {
+fn reads_are_kept_and_joined(rt: HostRuntime) -> Result<(), Fail> {
     let mut store = store_of(rt.alloc(), &[1, 2, 3, 4])?;
     let mut looked = Vec::new(rt.alloc());
     let mut two = [0; 2];
     look_at(&mut store, 1, &mut two, &mut looked)?;
     assert_eq!(rt; two, [2, 3]);
+    let one = bytes_at(rt.alloc(), &mut store, 3, 1, &mut looked)?;
+    assert_eq!(rt; one.as_slice(), [4].as_slice());
     let three = bytes_at(rt.alloc(), &mut store, 0, 3, &mut looked)?;
     assert_eq!(rt; three.as_slice(), [1, 2, 3].as_slice());
-    let kept = [Range { at: 1, len: 2 }, Range { at: 0, len: 3 }];
+    let kept = [Range { at: 1, len: 3 }, Range { at: 0, len: 3 }];
     assert_eq!(rt; looked.as_slice(), kept.as_slice());
     Ok(())
 }

@@ -10,7 +10,7 @@ use Rattle.range_defs.proofs.RangeLaws.{covers-past, ends_where_covered, same_as
 use Rattle.image_defs.specs.Ask.{visits}
 use Rattle.image_defs.specs.Runs.{with_value}
 use Rattle.image_defs.proofs.Runs.{result_check_true}
-use Rattle.image_reads.specs.Steps.{ReadsAs, KeptWithin}
+use Rattle.image_reads.specs.Steps.{ReadsAs, KeptWithin, SameBytes}
 use Rattle.fault_defs.specs.declared.Refusal.TheVariants.{Limit}
 use Rattle.fault_defs.specs.declared.Bound.TheVariants.{Image}
 use Rattle.rx_tree.specs.PartValue.{PartValue}
@@ -32,13 +32,12 @@ blocks_told told later sup inode size end none looked parted parts list same siz
         → IfSome found (λ image. let answer : Result FoundBlocks ReadFault = Ok (record { parts = parts; indirect = list }) in Answers answer (blocks_found image sup inode))
     by_told None sized read = tt
     by_told (Some image) sized read =
-        let looks : looked ≡ visits image (inode_parts sup 0 inode) = let N : List Range → Type 0 = λ ranges. looked ≡ ranges ++ visits image (inode_parts sup 0 inode) in subst N is_none read.looks in
+        let looks : SameBytes looked (visits image (inode_parts sup 0 inode)) = let N : List Range → Type 0 = λ ranges. SameBytes looked (ranges ++ visits image (inode_parts sup 0 inode)) in subst N is_none read.looks in
         let ends = kept size inside (let E : List Range → Type 0 = λ ranges. All (λ range. range.at + range.len ≤ size) ranges in subst E (sym is_none) (All-nil _)) in
-        let indirect : list ≡ longest_ranges (covers looked) 0 size =
-        same_as_longest_ranges (covers looked) size list canonical covered (ends_where_covered list size canonical (λ byte past. covered byte ∙ covers-past size byte looked ends past)) in
+        let indirect : list ≡ longest_ranges (covers (visits image (inode_parts sup 0 inode))) 0 size =
+        same_as_longest_ranges (covers (visits image (inode_parts sup 0 inode))) size list canonical (λ byte. covered byte ∙ looks byte) (ends_where_covered list size canonical (λ byte past. covered byte ∙ covers-past size byte looked ends past)) in
         ap (with_value (found_in image sup inode))
         (result_check_true image (nat_le (length image) LONGEST_IMAGE) (Limit Image LONGEST_IMAGE) (λ done. inode_parts sup 0 inode) (le-leb (length image) LONGEST_IMAGE (omega (arith, sized, short))) ∙ read.given)
         ∙ ap (λ one. Ok (record { parts = one; indirect = longest_ranges (covers (visits image (inode_parts sup 0 inode))) 0 (length image) })) (sym is_parts)
-        ∙ ap (λ ranges. Ok (record { parts = parts; indirect = longest_ranges (covers ranges) 0 (length image) })) (sym looks)
-        ∙ ap (λ n. Ok (record { parts = parts; indirect = longest_ranges (covers looked) 0 n })) sized
+        ∙ ap (λ n. Ok (record { parts = parts; indirect = longest_ranges (covers (visits image (inode_parts sup 0 inode))) 0 n })) sized
         ∙ ap (λ ranges. Ok (record { parts = parts; indirect = ranges })) (sym indirect)

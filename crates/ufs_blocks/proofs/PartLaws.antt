@@ -5,11 +5,9 @@ use Rattle.range_defs.specs.declared.Range.{Range}
 use Rattle.range_defs.specs.Places.{covers, IsRangeList}
 use Rattle.range_defs.proofs.RangeLaws.{same_range_list}
 use Rattle.image_defs.specs.Ask.{Ask, Done, ◌>>=◌}
-use Rattle.image_defs.specs.Standing.{IsCome}
+use Rattle.image_reads.specs.Steps.{IsCome, ReadsAs}
 use Rattle.image_defs.specs.Through.{through}
-use Rattle.image_defs.proofs.Standing.{begins, comes_to}
-use Rattle.image_reads.specs.Steps.{ReadsAs}
-use Rattle.image_reads.proofs.Steps.{comes_value, comes_fault, comes_done, comes_rest, ends_with}
+use Rattle.image_reads.proofs.Steps.{begins, comes_to, comes_value, comes_fault, comes_done, comes_rest, ends_with}
 use Rattle.rx_store.specs.declared.read_fault.ReadFault.{ReadFault}
 use Rattle.rx_tree.specs.declared.part.Role.TheVariants as roles
 use Rattle.rx_tree.specs.declared.file.Kind.{Kind}

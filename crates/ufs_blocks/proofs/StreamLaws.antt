@@ -4,11 +4,9 @@ use Rattle.std.proofs.Common.{arith, ap, sym, ◌∙◌, subst, inl, inr, ⊎_el
 use Rattle.std.proofs.lemmas.List.Elements.{All-nil}
 use Rattle.range_defs.specs.declared.Range.{Range}
 use Rattle.image_defs.specs.Ask.{Ask, Done, result_of, ◌>>=◌}
-use Rattle.image_defs.specs.Standing.{IsCome}
+use Rattle.image_reads.specs.Steps.{IsCome, ReadsAs}
 use Rattle.image_defs.specs.Through.{through}
-use Rattle.image_defs.proofs.Standing.{begins, comes_to}
-use Rattle.image_reads.specs.Steps.{ReadsAs}
-use Rattle.image_reads.proofs.Steps.{comes_value, comes_fault, comes_done, ends_with}
+use Rattle.image_reads.proofs.Steps.{begins, comes_to, comes_value, comes_fault, comes_done, ends_with}
 use Rattle.piece_defs.specs.Covering.{covers_from}
 use Rattle.rx_store.specs.declared.read_fault.ReadFault.{ReadFault}
 use Rattle.fault_defs.specs.declared.Refusal.{Refusal}

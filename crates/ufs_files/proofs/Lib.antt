@@ -1,4 +1,5 @@
 pub mod GroupLaws
+pub mod GuardedLaws
 pub mod SortLaws
 pub mod TreeLaws
 pub mod SecondLaws

@@ -8,12 +8,10 @@ use Rattle.std.proofs.lemmas.List.Elements.{All-contains, All-map, All-filter, A
 use Rattle.range_defs.specs.declared.Range.{Range}
 use Rattle.bytes_defs.specs.Bytes.{part}
 use Rattle.image_defs.specs.Ask.{Ask, Done, result_of, visits, check, ◌>>=◌, ◌>>◌}
-use Rattle.image_defs.specs.Standing.{IsCome}
+use Rattle.image_reads.specs.Steps.{IsCome, ReadsAs, SameBytes}
 use Rattle.image_defs.specs.Through.{through}
 use Rattle.image_defs.proofs.Runs.{result_bind_ok, visits_bind_ok, visits_bind_quiet, visits_check}
-use Rattle.image_defs.proofs.Standing.{begins}
-use Rattle.image_reads.specs.Steps.{ReadsAs}
-use Rattle.image_reads.proofs.Steps.{comes_done, through_value, through_fault, through_ends, ends_with}
+use Rattle.image_reads.proofs.Steps.{begins, comes_done, through_value, through_fault, through_ends, ends_with}
 use Rattle.rx_store.specs.Answers.{Answers}
 use Rattle.rx_store.specs.declared.read_fault.ReadFault.{ReadFault}
 use Rattle.fault_defs.specs.declared.Refusal.{Refusal}
@@ -104,7 +102,7 @@ as_number (Some image) sup volume names filed group now looked result stored of 
     let known = stored_group sup names group image stored of in
     record {
       given = let P : Result Filed Refusal → Type 0 = λ gives. Answers result gives in subst P (sym (same_result image sup volume names filed group of known)) read.given;
-      looks = let P : List Range → Type 0 = λ ranges. OnOk result (looked ≡ now ++ ranges) in subst P (sym (same_looks image sup volume names filed group of known)) read.looks;
+      looks = let P : List Range → Type 0 = λ ranges. OnOk result (SameBytes looked (now ++ ranges)) in subst P (sym (same_looks image sup volume names filed group of known)) read.looks;
     }
 
 -- ---- the loop

@@ -10,7 +10,8 @@ use Rattle.bytes_defs.specs.declared.order.Order.{Order}
 use Rattle.image_defs.specs.Ask.{result_of, visits, check, ◌>>◌}
 use Rattle.image_defs.specs.Runs.{with_value}
 use Rattle.image_defs.proofs.Runs.{result_bind_ok, result_bind_err}
-use Rattle.image_reads.specs.Steps.{ReadsAs}
+use Rattle.image_reads.specs.Steps.{ReadsAs, SameBytes}
+use Rattle.image_reads.proofs.Bytes.{same_longest}
 use Rattle.rx_store.specs.Answers.{Answers}
 use Rattle.rx_store.specs.declared.read_fault.ReadFault.{ReadFault}
 use Rattle.rx_store.specs.declared.read_fault.ReadFault.TheVariants as read
@@ -115,13 +116,13 @@ module _ (orders : List Order) (volume : Range) (number : ℕ) where
           (fault_says fault (result_of image (volume_at orders size volume number)) (volume_tree orders image volume number)
           (λ e refused. no_tree image e (ap (λ n. result_of image (volume_at orders n volume number)) sized ∙ refused)) says.given)
 
-  found_tree : (image : List ℕ) (size : ℕ) (found : FoundVolume) (looked : List Range) → length image ≡ size → result_of image (volume_at orders size volume number) ≡ Ok found → looked ≡ visits image (volume_at orders size volume number)
+  found_tree : (image : List ℕ) (size : ℕ) (found : FoundVolume) (looked : List Range) → length image ≡ size → result_of image (volume_at orders size volume number) ≡ Ok found → SameBytes looked (visits image (volume_at orders size volume number))
       → volume_tree orders image volume number ≡ Ok (tree_of size volume number (longest_ranges (covers looked) 0 size) found)
   unfolding volume_tree guard_of
   found_tree image size found looked sized gives kept =
       ap (λ n. with_value (tree_of n volume number (longest_ranges (covers (visits image (volume_at orders n volume number))) 0 n)) (result_of image (volume_at orders n volume number))) sized
       ∙ ap (with_value (tree_of size volume number (longest_ranges (covers (visits image (volume_at orders size volume number))) 0 size))) gives
-      ∙ ap (λ ranges. Ok (tree_of size volume number (longest_ranges (covers ranges) 0 size) found)) (sym kept)
+      ∙ ap (λ guard. Ok (tree_of size volume number guard found)) (sym (same_longest looked (visits image (volume_at orders size volume number)) kept 0 size))
 
   pub tree_told : (told later : Option (List ℕ)) (size : ℕ) (found : FoundVolume) (before looked : List Range) (tree : TreeValue) → before ≡ [] → later ≡ told → IfSome told (HasSize size)
       → ReadsAs later (volume_at orders size volume number) before looked (Ok found) → tree ≡ tree_of size volume number (longest_ranges (covers looked) 0 size) found → IfSome told (GivesTree (Ok tree))
@@ -132,5 +133,5 @@ module _ (orders : List Order) (volume : Range) (number : ℕ) where
       by_told : (known : Option (List ℕ)) → IfSome known (HasSize size) → ReadsAs known (volume_at orders size volume number) before looked (Ok found) → IfSome known (GivesTree (Ok tree))
       by_told None sized says = tt
       by_told (Some image) sized says =
-          found_tree image size found looked sized says.given (says.looks ∙ ap (λ ranges. ranges ++ visits image (volume_at orders size volume number)) none)
+          found_tree image size found looked sized says.given (let N : List Range → Type 0 = λ ranges. SameBytes looked (ranges ++ visits image (volume_at orders size volume number)) in subst N none says.looks)
           ∙ ap Ok (sym is)

@@ -19,6 +19,7 @@ ghost use Rattle.ufs_files.specs.Filed.{group_file, with_group, IsGoodGroup, Has
 use crate::file::file_from;
 use crate::group::{Group, groups_of};
 use crate::rest::Rest;
+use image_reads::keep;
 use range_defs::Range;
 use rx_store::{ReadFault, Store};
 use rx_tree::FileEntry;
@@ -106,7 +107,7 @@ fn group_file<S: Store>(
     ensures counted { IsReadCounted Image result (S.faults store.old) (S.faults store.new) }
 {
     let inode = group.inode.inode();
-    looked.push(range_of(sup, &inode))?;
+    keep(looked, range_of(sup, &inode))?;
     let parted = inode_parts(alloc, store, sup, &inode, filed.runs, looked)?;
     Ok(filed.with_group(sup, volume, group, parted)?)
 }

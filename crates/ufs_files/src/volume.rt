@@ -10,6 +10,7 @@ ghost use Rattle.rx_store.specs.ReadFaults.{IsReadCounted};
 ghost use Rattle.ufs_volume_defs.specs.Volume.{volume_at, volume_tree};
 ghost use Rattle.ufs_names.specs.Walked.{KeptWithin};
 ghost use Rattle.ufs_files.specs.Filed.{AreFilesOf};
+ghost use Rattle.ufs_files.specs.Guarded.{RestsOnGuard};
 
 use crate::second::read_files;
 use crate::tree::tree_from;
@@ -67,7 +68,8 @@ fn read_volume<S: Store>(
     })
 }
 
-/// The tree of the UFS volume of `len` bytes from byte `at` on, which has a number among the volumes of the image.
+/// The tree of the UFS volume of `len` bytes from byte `at` on, which has a number among the volumes of the image. It rests on the
+/// bytes of its guard alone: an image of the same length with the same bytes there has the same tree.
 pub fn read_ufs<S: Store>(
     alloc: Global,
     store: &mut S,
@@ -77,6 +79,7 @@ pub fn read_ufs<S: Store>(
 ) -> Result<Tree, ReadFault>
     requires { at + len ≤ size_of Image (S.state store.old) }
     ensures told { IfSome (told_image (S.state store.old)) (λ image. Answers result (volume_tree (Little ∷ []) image (record { at = at; len = len }) volume)) }
+    ensures rests { IfOk result (λ tree. IfSome (told_image (S.state store.old)) (RestsOnGuard (record { at = at; len = len }) volume tree)) }
     ensures sized { IfOk result (λ tree. tree.image_len ≡ size_of Image (S.state store.old)) }
     ensures same { S.state store.new ≡ S.state store.old }
     ensures counted { IsReadCounted Image result (S.faults store.old) (S.faults store.new) }

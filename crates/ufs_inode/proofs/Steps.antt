@@ -6,7 +6,8 @@ use Rattle.range_defs.specs.declared.Range.{Range}
 use Rattle.bytes_defs.specs.Bytes.{part}
 use Rattle.image_defs.specs.Ask.{result_of, visits}
 use Rattle.image_defs.proofs.Runs.{result_check_true, result_check_false, visits_check_true}
-use Rattle.image_reads.specs.Steps.{ReadsAs}
+use Rattle.image_reads.specs.Steps.{ReadsAs, SameBytes}
+use Rattle.image_reads.proofs.Bytes.{same_ranges, same_then}
 use Rattle.fault_defs.specs.declared.Refusal.{Refusal}
 use Rattle.fault_defs.specs.declared.Refusal.TheVariants.{Damaged}
 use Rattle.fault_defs.specs.declared.Sort.TheVariants.{InodeNumber}
@@ -60,12 +61,15 @@ named_visits image sup number entry has =
     (tests_look_nowhere sup (inode_of sup (inode_place sup number) (part image (inode_place sup number) (layout_of sup.version).inode_len)) image)
 
 pub keeps_inode : (told : Option (List ℕ)) (sup : Super) (number entry : ℕ) (inode : Inode) (before looked : List Range) → has_inode sup number ≡ true → inode.at ≡ inode_place sup number
-    → IfSome told (λ image. result_of image (inode_named sup number entry) ≡ Ok inode) → looked ≡ before ++ record { at = inode.at; len = (layout_of sup.version).inode_len } ∷ []
+    → IfSome told (λ image. result_of image (inode_named sup number entry) ≡ Ok inode) → SameBytes looked (before ++ record { at = inode.at; len = (layout_of sup.version).inode_len } ∷ [])
     → ReadsAs told (inode_named sup number entry) before looked (Ok inode)
 keeps_inode None sup number entry inode before looked has here gives kept = tt
 keeps_inode (Some image) sup number entry inode before looked has here gives kept = record {
   given = gives;
-  looks = kept ∙ ap (λ from. before ++ record { at = from; len = (layout_of sup.version).inode_len } ∷ []) here ∙ ap (λ ranges. before ++ ranges) (sym (named_visits image sup number entry has));
+  looks =
+      same_then looked (before ++ record { at = inode.at; len = (layout_of sup.version).inode_len } ∷ []) (before ++ visits image (inode_named sup number entry)) kept
+      (same_ranges (before ++ record { at = inode.at; len = (layout_of sup.version).inode_len } ∷ []) (before ++ visits image (inode_named sup number entry))
+      (ap (λ from. before ++ record { at = from; len = (layout_of sup.version).inode_len } ∷ []) here ∙ ap (λ ranges. before ++ ranges) (sym (named_visits image sup number entry has))));
 }
 
 -- ---- places that fit

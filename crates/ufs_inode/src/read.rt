@@ -5,7 +5,7 @@ ghost use Rattle.disk_defs.specs.Count.{IsCountedIn};
 ghost use Rattle.disk_defs.specs.Disk.{size_of, told_image};
 ghost use Rattle.disk_defs.specs.declared.Area.TheVariants.{Image};
 ghost use Rattle.image_defs.specs.Ask.{Done, result_of};
-ghost use Rattle.image_reads.specs.Steps.{IsNoRefusal, ReadsAs};
+ghost use Rattle.image_reads.specs.Steps.{IsNoRefusal, KeptWithin, ReadsAs};
 ghost use Rattle.rx_store.specs.Answers.{Answers};
 ghost use Rattle.rx_store.specs.ReadFaults.{IsReadCounted};
 ghost use Rattle.ufs_inode_defs.specs.Inode.{inode_of, sound_inode, inode_named};
@@ -18,6 +18,7 @@ use crate::block::InodeBlock;
 use crate::fields::{inode_1_from, inode_2_from};
 use crate::place::{bytes_in_front, has_inode, inode_place};
 use crate::tested::tested;
+use image_reads::keep;
 use range_defs::Range;
 use rx_store::{Fault, ReadFault, Sort, Store};
 use ufs_inode_defs::{Inode, Super};
@@ -166,15 +167,16 @@ pub fn look_at_inode<S: Store>(
     ensures within { OnOk result (spec.has_inode sup.now number ≡ true) }
     ensures ends { IfOk result (λ inode. inode.at + (layout_of sup.now.version).inode_len ≤ sup.now.at + sup.now.len) }
     ensures tested { IfOk result (λ inode. sound_inode sup.now inode ≡ Done tt) }
-    ensures kept { IfOk result (λ inode. looked.new.items ≡ looked.old.items ++ record { at = inode.at; len = (layout_of sup.now.version).inode_len } ∷ []) }
+    ensures kept { OnOk result (KeptWithin (sup.now.at + sup.now.len) looked.old.items looked.new.items) }
     ensures block { IsBlockOf (told_image (S.state store.new)) block.new }
     ensures same { S.state store.new ≡ S.state store.old }
     ensures counted { IsReadCounted Image result (S.faults store.old) (S.faults store.new) }
 {
     let inode = inode_through(store, sup, number, entry, block)?;
-    looked.push(Range {
+    let range = Range {
         at: inode.at,
         len: u64::from(inode_len(sup.version)),
-    })?;
+    };
+    keep(looked, range)?;
     Ok(inode)
 }

@@ -3,14 +3,12 @@ use Rattle.std.specs.Prelude.{◌≡◌, ℕ, IsErr, IsErrAnd, Option, Result, O
 use Rattle.std.proofs.Common.{subst}
 use Rattle.range_defs.specs.declared.Range.{Range}
 use Rattle.image_defs.specs.Ask.{Ask, look, given, ◌>>=◌}
-use Rattle.image_defs.specs.Standing.{IsCome}
+use Rattle.image_reads.specs.Steps.{IsCome, ReadsAs}
 use Rattle.image_defs.specs.Through.{through}
-use Rattle.image_defs.proofs.Standing.{begins}
+use Rattle.image_reads.proofs.Steps.{begins, comes_value, comes_fault, comes_rest, ends_with}
 use Rattle.fault_defs.specs.declared.Refusal.{Refusal}
 use Rattle.rx_store.specs.Answers.{Answers}
 use Rattle.rx_store.specs.declared.read_fault.ReadFault.{ReadFault}
-use Rattle.image_reads.specs.Steps.{ReadsAs}
-use Rattle.image_reads.proofs.Steps.{comes_value, comes_fault, comes_rest, ends_with}
 use Rattle.ufs_inode_defs.specs.Stream.{content_len}
 use Rattle.ufs_inode_defs.specs.declared.superblock.Super.{Super}
 use Rattle.ufs_volume_defs.specs.Directory.{Entry, entries_of}

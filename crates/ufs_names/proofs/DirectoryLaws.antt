@@ -6,17 +6,15 @@ use Rattle.range_defs.specs.declared.Range.{Range}
 use Rattle.range_defs.specs.declared.TheConstants.{LONGEST_IMAGE}
 use Rattle.rx_ranges.specs.declared.pieces.Piece.{Piece}
 use Rattle.image_defs.specs.Ask.{Ask, given, ◌>>=◌}
-use Rattle.image_defs.specs.Standing.{IsCome}
+use Rattle.image_reads.specs.Steps.{IsCome, ReadsAs}
 use Rattle.image_defs.specs.Through.{through}
-use Rattle.image_defs.proofs.Standing.{begins, comes_past}
+use Rattle.image_reads.proofs.Steps.{begins, comes_past, comes_value, comes_fault, comes_rest, comes_stop, ends_with}
 use Rattle.fault_defs.specs.declared.Refusal.{Refusal}
 use Rattle.fault_defs.specs.declared.Refusal.TheVariants as refusal
 use Rattle.fault_defs.specs.declared.Sort.TheVariants.{DirSize}
 use Rattle.rx_store.specs.Answers.{Answers}
 use Rattle.rx_store.specs.declared.read_fault.ReadFault.{ReadFault}
 use Rattle.rx_store.specs.declared.read_fault.ReadFault.TheVariants.{Damaged}
-use Rattle.image_reads.specs.Steps.{ReadsAs}
-use Rattle.image_reads.proofs.Steps.{comes_value, comes_fault, comes_rest, comes_stop, ends_with}
 use Rattle.ufs_inode_defs.specs.Inode.{size_place}
 use Rattle.ufs_inode_defs.specs.Stream.{content_stream}
 use Rattle.ufs_inode_defs.specs.Blocks.{Laid, runs_of, stream_blocks}

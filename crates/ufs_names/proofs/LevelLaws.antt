@@ -6,14 +6,13 @@ use Rattle.std.proofs.lemmas.Bool.Decides.{Decides-eqb}
 use Rattle.std.proofs.lemmas.List.Elements.{recursion_from_All, All-from_recursion}
 use Rattle.range_defs.specs.declared.Range.{Range}
 use Rattle.image_defs.specs.Ask.{Ask}
-use Rattle.image_defs.specs.Standing.{IsCome}
+use Rattle.image_reads.specs.Steps.{IsCome, ReadsAs}
 use Rattle.image_defs.specs.Through.{through}
 use Rattle.fault_defs.specs.declared.Refusal.{Refusal}
 use Rattle.fault_defs.specs.declared.Refusal.TheVariants as refusal
 use Rattle.fault_defs.specs.declared.Bound.TheVariants.{Depth}
 use Rattle.rx_store.specs.declared.read_fault.ReadFault.{ReadFault}
 use Rattle.rx_store.specs.declared.read_fault.ReadFault.TheVariants.{Limit}
-use Rattle.image_reads.specs.Steps.{ReadsAs}
 use Rattle.image_reads.proofs.Steps.{comes_value, comes_fault, comes_done, comes_stop, ends_with}
 use Rattle.ufs_inode_defs.specs.declared.superblock.Super.{Super}
 use Rattle.ufs_volume_defs.specs.Names.{Named, Walk, deepest, directories_behind, directory_names, names_below, names_directory}

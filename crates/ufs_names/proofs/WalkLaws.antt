@@ -2,7 +2,6 @@
 use Rattle.std.specs.Prelude.{◌≡◌, ℕ, ◌+◌, ◌<◌, ◌≤◌, true, false, nat_le, Option, None, Some, OnOk, Result, Ok, Err, List, [], ◌∷◌, ◌++◌, length, refl}
 use Rattle.std.proofs.Common.{arith, sym, subst, append-nil}
 use Rattle.std.proofs.lemmas.Bool.{le-leb, lt-leb}
-use Rattle.std.proofs.lemmas.List.Elements.{All-push}
 use Rattle.range_defs.specs.declared.Range.{Range}
 use Rattle.image_defs.specs.Ask.{Ask, Done, Stop}
 use Rattle.fault_defs.specs.declared.Refusal.{Refusal}
@@ -10,7 +9,8 @@ use Rattle.fault_defs.specs.declared.Refusal.TheVariants as refusal
 use Rattle.fault_defs.specs.declared.Bound.TheVariants.{Names, PathBytes}
 use Rattle.rx_store.specs.declared.read_fault.ReadFault.{ReadFault}
 use Rattle.rx_store.specs.declared.read_fault.ReadFault.TheVariants.{Device, NoMemory, NotThis, Damaged, Unsupported, Limit}
-use Rattle.image_reads.specs.Steps.{EndBy, ReadsAs, IsRead}
+use Rattle.image_reads.specs.Steps.{ReadsAs, IsRead}
+use Rattle.image_reads.proofs.Bytes.{same_ranges}
 use Rattle.ufs_volume_defs.specs.Names.{Named, Walk, counted_name, with_name, path_bytes, longest_path, most_names, most_path_bytes}
 use Rattle.ufs_names.specs.Walked.{KeptWithin, Settles}
 
@@ -48,7 +48,7 @@ settles_reads {X = X} None looked program result settles = tt
 settles_reads {X = X} (Some image) looked program result settles = by_result result settles
   where
     by_result : (result : Result X ReadFault) → Settles result program → IsRead image program looked looked result
-    by_result (Ok x) settles = let P : Ask Refusal X → Type 0 = λ ask. IsRead image ask looked looked (Ok x) in subst P (sym settles) (record { given = refl; looks = sym (append-nil looked) })
+    by_result (Ok x) settles = let P : Ask Refusal X → Type 0 = λ ask. IsRead image ask looked looked (Ok x) in subst P (sym settles) (record { given = refl; looks = same_ranges looked (looked ++ []) (sym (append-nil looked)) })
     by_result (Err Device) settles = record { given = tt; looks = tt }
     by_result (Err NoMemory) settles = record { given = tt; looks = tt }
     by_result (Err NotThis) settles = let P : Ask Refusal X → Type 0 = λ ask. IsRead image ask looked looked (Err NotThis) in subst P (sym settles) (record { given = refl; looks = tt })
@@ -60,11 +60,6 @@ settles_reads {X = X} (Some image) looked program result settles = by_result res
 
 pub kept_on : (last : ℕ) (first second third : List Range) → KeptWithin last first second → KeptWithin last second third → KeptWithin last first third
 kept_on last first second third one two = λ end far all. two end far (one end far all)
-
-pub kept_one : (last : ℕ) (before after : List Range) (range : Range) → after ≡ before ++ range ∷ [] → range.at + range.len ≤ last → KeptWithin last before after
-kept_one last before after range is inside =
-    λ end far all.
-    subst (λ ranges. EndBy end ranges) (sym is) (All-push (λ one. one.at + one.len ≤ end) before range all (omega arith))
 
 pub kept_then : {X E : Type 0} (result : Result X E) (last : ℕ) (first second third : List Range) → KeptWithin last first second → OnOk result (KeptWithin last second third) → OnOk result (KeptWithin last first third)
 kept_then (Ok x) last first second third one two = kept_on last first second third one two

@@ -10,6 +10,7 @@ use Rattle.image_defs.proofs.Runs.{result_given, visits_given}
 use Rattle.fault_defs.specs.declared.Refusal.{Refusal}
 use Rattle.fault_defs.specs.declared.Refusal.TheVariants.{NotThis}
 use Rattle.image_reads.specs.Steps.{ReadsAs}
+use Rattle.image_reads.proofs.Bytes.{same_ranges}
 use Rattle.ufs_inode_defs.specs.Layout.{Layout, layout_1, layout_2, layout_of}
 use Rattle.ufs_inode_defs.specs.Superblock.{superblock_of, wrong_field, checked_super, super_in, super_or, super_of_1, super_of_2, volume_super}
 use Rattle.ufs_inode_defs.specs.declared.superblock.Super.{Super}
@@ -97,4 +98,7 @@ pub keeps_looks : (told : Option (List ℕ)) (at len : ℕ) (sup : Super) (befor
     → (layout_of sup.version).superblock_at + 1376 ≤ len → looked ≡ before ++ super_looks at sup.version
     → ReadsAs told (volume_super (Little ∷ []) (record { at = at; len = len })) before looked (Ok sup)
 keeps_looks None at len sup before looked gives whole kept = tt
-keeps_looks (Some image) at len sup before looked gives whole kept = record { given = gives; looks = kept ∙ ap (λ ranges. before ++ ranges) (sym (super_visits image at len sup gives whole)) }
+keeps_looks (Some image) at len sup before looked gives whole kept = record {
+  given = gives;
+  looks = same_ranges looked (before ++ visits image (volume_super (Little ∷ []) (record { at = at; len = len }))) (kept ∙ ap (λ ranges. before ++ ranges) (sym (super_visits image at len sup gives whole)));
+}

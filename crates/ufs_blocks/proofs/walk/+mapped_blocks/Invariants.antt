@@ -1,8 +1,7 @@
 use Rattle.std.proofs.Common.{◌≡◌, ◌+◌, ◌-◌, ◌*◌, drop}
 use Rattle.disk_defs.specs.Disk.{told_image}
-use Rattle.image_defs.specs.Standing.{IsCome}
+use Rattle.image_reads.specs.Steps.{IsCome, KeptWithin}
 use Rattle.image_defs.specs.Through.{through}
-use Rattle.image_reads.specs.Steps.{KeptWithin}
 use Rattle.ufs_inode_defs.specs.Blocks.{mapped_blocks, pointers_in}
 use Rattle.ufs_inode_defs.specs.Stream.{span}
 use Rattle.ufs_blocks.specs.UnderWay.{IsUnderWay, HasGone}

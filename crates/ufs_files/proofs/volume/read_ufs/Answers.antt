@@ -5,6 +5,7 @@ use Rattle.disk_defs.specs.declared.Area.TheVariants.{Image}
 use Rattle.range_defs.specs.Places.{covers, longest_ranges}
 use Rattle.rx_tree.specs.Within.{AreFilesWithin}
 use Rattle.ufs_volume_defs.specs.Volume.{FoundVolume}
+use Rattle.ufs_files.proofs.GuardedLaws.{rests_told}
 use Rattle.ufs_files.proofs.ToldLaws.{has_size, tree_of_found, long_image, long_refused, tree_refused, tree_told}
 use Rattle.ufs_files.proofs.TreeLaws.{files_wider}
 use Rattle.ufs_files.proofs.volume.read_ufs.Goals as goal
@@ -42,3 +43,7 @@ returns-clause-told g c =
     (c.in_ok-tree_from.ensures
     ∙ tree_of_found c.in_ok-size.size c.args.volume c.args.at c.args.len (longest_ranges (covers c.read_volume.new.looked.items) 0 c.in_ok-size.size) _ c.in_ok-superblock.field-0 c.files.view_is c.in_ok-superblock.ensures.begins
     c.in_ok-superblock.ensures.long)
+
+pub returns-clause-rests : goal.returns-clause-rests
+returns-clause-rests g c =
+    rests_told (told_image (g.S.Store.state c.args.store.now)) (record { at = c.args.at; len = c.args.len }) c.args.volume c.in_ok-tree_from.field-0 (returns-clause-told g c)

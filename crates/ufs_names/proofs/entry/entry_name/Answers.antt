@@ -1,14 +1,12 @@
 use Rattle.std.specs.Prelude.{refl}
 use Rattle.std.proofs.Common.{◌+◌, arith, ap}
 use Rattle.disk_defs.specs.Disk.{told_image}
-use Rattle.image_defs.proofs.Standing.{begins}
-use Rattle.image_reads.proofs.Steps.{comes_value, comes_fault, comes_rest, ends_with}
-use Rattle.ufs_inode_defs.specs.Layout.{layout_of}
+use Rattle.image_reads.proofs.Steps.{begins, comes_value, comes_fault, comes_rest, ends_with}
 use Rattle.ufs_inode_defs.specs.Inode.{inode_named}
 use Rattle.ufs_volume_defs.specs.Names.{entry_name, found_name}
 use Rattle.ufs_names.specs.Walked.{KeptWithin}
-use Rattle.ufs_names.proofs.WalkLaws.{settles_reads, kept_one}
-use Rattle.ufs_names.proofs.FoundLaws.{on_ok, counted_calm, inode_inside, named_as}
+use Rattle.ufs_names.proofs.WalkLaws.{settles_reads}
+use Rattle.ufs_names.proofs.FoundLaws.{on_ok, counted_calm, named_as}
 use Rattle.ufs_names.proofs.entry.entry_name.Goals as goal
 
 pub returns-in_err-inode-clause-reads : goal.returns-in_err-inode-clause-reads
@@ -40,9 +38,7 @@ returns-clause-reads g c =
 pub returns-clause-kept : goal.returns-clause-kept
 returns-clause-kept g c =
     on_ok (KeptWithin (c.args.sup.now.at + c.args.sup.now.len) c.args.seen.now.looked.items c.look_at_inode.new.looked.items) c.found_name.result
-    (kept_one (c.args.sup.now.at + c.args.sup.now.len) c.args.seen.now.looked.items c.look_at_inode.new.looked.items
-    (record { at = c.in_ok-inode.inode.at; len = (layout_of c.args.sup.now.version).inode_len }) c.in_ok-inode.ensures.kept
-    (let inside = inode_inside c.args.sup.now c.entry.inside.inode c.in_ok-inode.ensures.within in omega (arith, inside, c.in_ok-inode.ensures.place)))
+    c.in_ok-inode.ensures.kept
 
 pub returns-clause-counted : goal.returns-clause-counted
 returns-clause-counted g c =
