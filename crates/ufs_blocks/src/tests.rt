@@ -45,12 +45,38 @@ fn volume(alloc: Global) -> Result<Vec<u8>, AllocError>
     Ok(bytes)
 }
 
+/// A UFS1 of 64 fragments of 1,024 bytes, four to a block, whose inodes begin at fragment 18. Inode 3 has one byte, in fragment 28.
+fn volume_of_fragments(alloc: Global) -> Result<Vec<u8>, AllocError>
+    ensures { IfOk result (λ bytes. length bytes.items ≡ 65536) }
+{
+    let mut bytes = vec![in alloc; 0; 65_536]?;
+    // struct fs at 8192
+    bytes[8208] = 18;
+    bytes[8236] = 1;
+    bytes[8241] = 16;
+    bytes[8245] = 4;
+    bytes[8248] = 4;
+    bytes[8309] = 4;
+    bytes[8312] = 32;
+    bytes[8376] = 32;
+    bytes[8380] = 64;
+    bytes[9564] = 0x54;
+    bytes[9565] = 0x19;
+    bytes[9566] = 0x01;
+    // struct ufs1_dinode of inode 3, at 18432 + 3 * 128: mode 0100644, size 1, fragment 28
+    bytes[18_816] = 0xA4;
+    bytes[18_817] = 0x81;
+    bytes[18_824] = 1;
+    bytes[18_856] = 28;
+    Ok(bytes)
+}
+
 /// The blocks of inode 3 of a volume that is the whole image.
 fn blocks_in(alloc: Global, bytes: Vec<u8>) -> Result<Blocks, ReadFault>
-    requires { length bytes.items ≡ 196608 }
 {
+    let len = bytes.len() as u64;
     let mut store = MemStore::new(alloc, bytes, Vec::new(alloc), 0, 0, 0)?;
-    let sup = read_super(&mut store, 0, 196_608)?;
+    let sup = read_super(&mut store, 0, len)?;
     let inode = read_inode(&mut store, &sup, 3, 0)?;
     blocks_of(alloc, &mut store, &sup, &inode)
 }
@@ -81,6 +107,17 @@ fn blocks_behind_the_twelfth_are_found(rt: HostRuntime) -> Result<(), Fail> {
         len: 32_768,
     }];
     assert_eq!(rt; blocks.indirect.items(), indirect.as_slice());
+    Ok(())
+}
+
+#[test]
+fn a_ufs1_has_slack_up_to_the_end_of_the_fragment(rt: HostRuntime) -> Result<(), Fail> {
+    let blocks = blocks_in(rt.alloc(), volume_of_fragments(rt.alloc())?)?;
+    let slack = [Range {
+        at: 28_673,
+        len: 1_023,
+    }];
+    assert_eq!(rt; blocks.parts.items()[0].slack.items(), slack.as_slice());
     Ok(())
 }
 
