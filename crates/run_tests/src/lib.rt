@@ -17,4 +17,6 @@ mod plan;
 #[cfg(test)]
 mod redact;
 #[cfg(test)]
+mod refusals;
+#[cfg(test)]
 mod small_image;

@@ -12,6 +12,8 @@ fn filetimes(rt: HostRuntime) {
 #[test]
 fn seconds(rt: HostRuntime) {
     assert_eq!(rt; Moment::from_unix(0).seconds, 0);
+    assert_eq!(rt; Moment::from_unix(-1).seconds, -1);
+    assert_eq!(rt; Moment::from_unix(1_700_000_000).seconds, 1_700_000_000);
     assert_eq!(rt; Moment::from_unix(i64::MIN).seconds, i64::MIN);
     assert_eq!(rt; Moment::from_hfs(0), None);
     assert_eq!(rt;
