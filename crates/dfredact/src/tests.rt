@@ -71,127 +71,105 @@ fn place(rt: &HostRuntime, name: &str) -> io::Result<String> {
     )
 }
 
+/// A word of a command line: behind an `@` the name of a file of the tests, else the word as it is.
+fn word_of(rt: &HostRuntime, word: &str) -> io::Result<String> {
+    match word.strip_prefix("@") {
+        Some(name) => place(rt, name),
+        None => Ok(String::from_str(rt.alloc(), word)?),
+    }
+}
+
 /// What the program answers to these words, with its answer to a file.
 fn status_of(rt: &HostRuntime, words: &[&str], out: &str) -> io::Result<Status> {
     let mut copied = Vec::new(rt.alloc());
     for word in words {
-        copied.push(String::from_str(rt.alloc(), word)?)?;
+        copied.push(word_of(rt, word)?)?;
     }
-    Ok(answer_to(rt, &copied, &mut StdSink::new(File::create(rt, out)?)))
+    let out = File::create(rt, &word_of(rt, out)?)?;
+    Ok(answer_to(rt, &copied, &mut StdSink::new(out)))
 }
+
+/// Makes the small image and a rule text that fills its file.
+fn make_files(rt: &HostRuntime, image: &str, rules: &str) -> io::Result<()> {
+    fs::write(rt, &place(rt, image)?, &small_image(rt.alloc())?)?;
+    fs::write(rt, &place(rt, rules)?, "FILENAME \"a\" FILL 0x58\n")
+}
+
+fn remove_files(rt: &HostRuntime, names: &[&str]) -> io::Result<()> {
+    for name in names {
+        fs::remove_file(rt, &place(rt, name)?)?;
+    }
+    Ok(())
+}
+
+/// Words, where the answer goes, and the status. A directory can be opened, but not read.
+const PLANS: &[([&str; 3], &str, Status)] = &[
+    (["plan", "@image", "@rules"], "@out", Status::Done),
+    (["plan", "@none", "@rules"], "@out", Status::DeviceFault),
+    (["plan", "/", "@rules"], "@out", Status::DeviceFault),
+    (["plan", "@image", "@none"], "@out", Status::SourceFault),
+    (["plan", "@image", "/"], "@out", Status::SourceFault),
+    (["plan", "@none", "@none"], "@out", Status::SourceFault),
+    (["plan", "@image", "@rules"], "/dev/full", Status::SinkFault),
+    (["plans", "@image", "@rules"], "@out", Status::Usage),
+];
 
 #[test]
 fn the_words_name_the_files(rt: HostRuntime) -> Result<(), Fail> {
-    let image = place(&rt, "image")?;
-    let rules = place(&rt, "rules")?;
-    let out = place(&rt, "out")?;
-    let none = place(&rt, "none")?;
-    let directory = env::temp_dir(&rt)?;
-    fs::write(&rt, &image, &small_image(rt.alloc())?)?;
-    fs::write(&rt, &rules, "FILENAME \"a\" FILL 0x58\n")?;
-    let rows = [
-        (
-            ["plan", image.as_str(), rules.as_str()],
-            out.as_str(),
-            Status::Done,
-        ),
-        (
-            ["plan", none.as_str(), rules.as_str()],
-            out.as_str(),
-            Status::DeviceFault,
-        ),
-        (
-            ["plan", directory.as_str(), rules.as_str()],
-            out.as_str(),
-            Status::DeviceFault,
-        ),
-        (
-            ["plan", image.as_str(), none.as_str()],
-            out.as_str(),
-            Status::SourceFault,
-        ),
-        (
-            ["plan", image.as_str(), directory.as_str()],
-            out.as_str(),
-            Status::SourceFault,
-        ),
-        (
-            ["plan", none.as_str(), none.as_str()],
-            out.as_str(),
-            Status::SourceFault,
-        ),
-        (
-            ["plan", image.as_str(), rules.as_str()],
-            "/dev/full",
-            Status::SinkFault,
-        ),
-        (
-            ["plans", image.as_str(), rules.as_str()],
-            out.as_str(),
-            Status::Usage,
-        ),
-    ];
-    for (i, (words, out, want)) in rows.into_iter().enumerate() {
-        let status = status_of(&rt, &words, out)?;
-        assert_eq!(rt; status, want, "at {i}");
+    make_files(&rt, "image", "rules")?;
+    for (words, out, want) in PLANS {
+        let status = status_of(&rt, words, out)?;
+        assert_eq!(rt; status, *want, "{} {}", words[1], words[2]);
     }
-    assert_eq!(rt; fs::read_to_string(&rt, &out)?.as_str(), "");
-    for path in [&image, &rules, &out] {
-        fs::remove_file(&rt, path)?;
-    }
-    Ok(())
+    assert_eq!(rt; fs::read_to_string(&rt, &place(&rt, "out")?)?.as_str(), "");
+    Ok(remove_files(&rt, &["image", "rules", "out"])?)
 }
+
+/// Words and their status, one behind the other. The link is another name of the image.
+const STEPS: &[(&[&str], Status)] = &[
+    (
+        &["redact", "@redacted", "@link", "@its_rules"],
+        Status::DeviceFault,
+    ),
+    (
+        &["redact", "@redacted", "@journal", "@its_rules"],
+        Status::Done,
+    ),
+    (
+        &["redact", "@redacted", "@journal", "@its_rules"],
+        Status::JournalOpen,
+    ),
+    (&["resume", "@redacted", "@journal"], Status::Done),
+    (
+        &["resume", "@redacted", "@its_rules"],
+        Status::JournalRefused(JournalRefusal::NotOpen),
+    ),
+    (&["report", "@journal"], Status::Done),
+];
 
 #[test]
 fn an_image_is_redacted_and_its_journal_kept(rt: HostRuntime) -> Result<(), Fail> {
+    make_files(&rt, "redacted", "its_rules")?;
     let image = place(&rt, "redacted")?;
-    let journal = place(&rt, "journal")?;
-    let link = place(&rt, "link")?;
-    let rules = place(&rt, "its_rules")?;
-    let out = place(&rt, "its_out")?;
-    fs::write(&rt, &image, &small_image(rt.alloc())?)?;
-    fs::write(&rt, &rules, "FILENAME \"a\" FILL 0x58\n")?;
-    fs::hard_link(&rt, &image, &link)?;
-    let redact = ["redact", image.as_str(), journal.as_str(), rules.as_str()];
-    let linked = ["redact", image.as_str(), link.as_str(), rules.as_str()];
-    let resume = ["resume", image.as_str(), journal.as_str()];
-    let missing = ["resume", image.as_str(), rules.as_str()];
-    let report = ["report", journal.as_str()];
-    assert_eq!(rt; status_of(&rt, &linked, &out)?, Status::DeviceFault);
-    assert_eq!(rt; status_of(&rt, &redact, &out)?, Status::Done);
-    assert_eq!(rt; status_of(&rt, &redact, &out)?, Status::JournalOpen);
-    assert_eq!(rt; status_of(&rt, &resume, &out)?, Status::Done);
-    assert_eq!(rt;
-        status_of(&rt, &missing, &out)?,
-        Status::JournalRefused(JournalRefusal::NotOpen)
-    );
-    assert_eq!(rt; status_of(&rt, &report, &out)?, Status::Done);
-    assert_eq!(rt; fs::read_to_string(&rt, &out)?.as_str(), REPORT);
+    fs::hard_link(&rt, &image, &place(&rt, "link")?)?;
+    for (words, want) in STEPS {
+        assert_eq!(rt; status_of(&rt, words, "@its_out")?, *want);
+    }
+    assert_eq!(rt; fs::read_to_string(&rt, &place(&rt, "its_out")?)?.as_str(), REPORT);
     let mut filled = small_image(rt.alloc())?;
     put(&mut filled, 86_016, 0x0058_5858);
     assert!(rt; fs::read(&rt, &image)? == filled);
-    assert_eq!(rt; fs::read(&rt, &journal)?.len(), 75);
-    for path in [&image, &journal, &link, &rules, &out] {
-        fs::remove_file(&rt, path)?;
-    }
-    Ok(())
+    assert_eq!(rt; fs::read(&rt, &place(&rt, "journal")?)?.len(), 75);
+    Ok(remove_files(&rt, &["redacted", "journal", "link", "its_rules", "its_out"])?)
 }
 
 #[test]
 fn a_directory_is_no_journal(rt: HostRuntime) -> Result<(), Fail> {
-    let image = place(&rt, "kept")?;
-    let rules = place(&rt, "kept_rules")?;
-    let out = place(&rt, "kept_out")?;
-    let directory = env::temp_dir(&rt)?;
-    fs::write(&rt, &image, &small_image(rt.alloc())?)?;
-    fs::write(&rt, &rules, "FILENAME \"a\" FILL 0x58\n")?;
-    let redact = ["redact", image.as_str(), directory.as_str(), rules.as_str()];
-    assert_eq!(rt; status_of(&rt, &redact, &out)?, Status::DeviceFault);
-    assert!(rt; fs::read(&rt, &image)? == small_image(rt.alloc())?);
-    for path in [&image, &rules, &out] {
-        fs::remove_file(&rt, path)?;
-    }
-    Ok(())
+    make_files(&rt, "kept", "kept_rules")?;
+    let status = status_of(&rt, &["redact", "@kept", "/", "@kept_rules"], "@kept_out")?;
+    assert_eq!(rt; status, Status::DeviceFault);
+    assert!(rt; fs::read(&rt, &place(&rt, "kept")?)? == small_image(rt.alloc())?);
+    Ok(remove_files(&rt, &["kept", "kept_rules", "kept_out"])?)
 }
 
 /// The arguments of a program whose second one isn't UTF-8.
