@@ -1,6 +1,6 @@
 -- Nothing is wrong with a volume that is read.
 use Rattle.std.specs.Prelude.{◌≡◌, ℕ, suc, ◌+◌, ◌%◌, ◌<◌, ◌≤◌, Bool, true, false, not, ◌&&◌, nat_le, Some, None, Ok, Err, List, [], length, map, refl}
-use Rattle.std.specs.List.{All, Contains}
+use Rattle.std.specs.List.{All, Contains, flat_map}
 use Rattle.std.proofs.Common.{ap, sym, ◌∙◌, subst, arith, ⊎_elim}
 use Rattle.std.proofs.lemmas.Bool.{leb-true, ltb-true, cases_eq}
 use Rattle.std.proofs.lemmas.List.Sums.{sum_by-cons}
@@ -18,7 +18,7 @@ use Rattle.fault_defs.specs.declared.Refusal.TheVariants.{NotThis, Damaged, Unsu
 use Rattle.fault_defs.specs.declared.Sort.{Sort}
 use Rattle.fault_defs.specs.declared.What.{What}
 use Rattle.fault_defs.specs.declared.Bound.{Bound}
-use Rattle.fault_defs.specs.declared.Bound.TheVariants.{Image, Runs}
+use Rattle.fault_defs.specs.declared.Bound.TheVariants.{Image}
 use Rattle.ufs_inode_defs.specs.Superblock.{wrong_field, super_place, volume_super, has_inode}
 use Rattle.ufs_inode_defs.specs.Inode.{stored_inode, is_directory, is_snapshot, inode_at}
 use Rattle.ufs_inode_defs.specs.Blocks.{most_runs}
@@ -29,14 +29,16 @@ use Rattle.ufs_volume_defs.specs.Directory.{Entry, entries_of, leads_on, leading
 use Rattle.ufs_volume_defs.specs.Names.{Named, Walk, path_bytes, names_directory, most_names, most_path_bytes, root_name, volume_names}
 use Rattle.ufs_volume_defs.specs.Files.{Filed, named_files, numbers_of}
 use Rattle.ufs_volume_defs.specs.Volume.{FoundVolume, files_below, volume_at}
-use Rattle.ufs_damage_defs.specs.Damage.{HasSuper, HasBlock, block_bytes, HasEntry, IsGoodDirectory, IsReached, Root, Through, IsGiven, HasInode, IsFalseIn, NoDirectory, NoInode, Dead, TooLong, ExtendedTooLong, BadPointer, OtherSize, InHole, BadEntry, RootAgain, Twice, IsFalseAt, WrongField, FalseIn, IsUnsupportedIn, IsSnapshot, IsUnsupportedAt, UnsupportedIn, AreNames, OfDirectories, OfFiles, IsOverIn, LongPath, ManyNames, LongNames, Deep, ManyRuns, IsOver, LongImage, OverIn, IsWrong}
-use Rattle.ufs_damage_defs.proofs.Walks.{same_value, not_both}
+use Rattle.ufs_damage_defs.specs.Damage.{HasSuper, HasBlock, block_bytes, HasEntry, IsGoodDirectory, IsReached, Root, Through, IsGiven, HasInode, IsFalseIn, NoDirectory, NoInode, Dead, TooLong, ExtendedTooLong, BadPointer, OtherSize, InHole, BadEntry, RootAgain, Twice, IsFalseAt, WrongField, FalseIn, IsUnsupportedIn, IsSnapshot, IsUnsupportedAt, UnsupportedIn, AreNames, Run, IsRun, AreRuns, IsOverIn, LongPath, ManyNames, LongNames, Deep, ManyRuns, IsOver, LongImage, OverIn, IsWrong}
+use Rattle.ufs_damage_defs.proofs.Walks.{same_value}
 use Rattle.ufs_damage_defs.proofs.SuperDamage.{super_read, super_sound}
 use Rattle.ufs_damage_defs.proofs.InodeDamage.{both_ways, named_gives, named_is, sound_of, not_dead, not_long, not_extended_long}
 use Rattle.ufs_damage_defs.proofs.NameFacts.{in_none, in_cases, in_head, once_same}
 use Rattle.ufs_damage_defs.proofs.NameDamage.{IsSomewhere}
 use Rattle.ufs_damage_defs.proofs.NameClosure.{IsNamedAt, IsWalkedIn, HasAllNames, all_names, same_inode}
-use Rattle.ufs_damage_defs.proofs.FileDamage.{number_among, files_sound}
+use Rattle.ufs_damage_defs.proofs.FileDamage.{number_among, files_sound, files_counted}
+use Rattle.ufs_damage_defs.proofs.Runs.{number_runs, runs_found}
+use Rattle.ufs_damage_defs.proofs.Distinct.{distinct_of, distinct_few}
 use Rattle.ufs_damage_defs.proofs.Matching.{HasMatch, fits}
 
 -- an entry that leads on names an inode behind the first two
@@ -245,6 +247,17 @@ module _ (image : List ℕ) (sup : Super) (volume : ℕ) (sound : wrong_field su
       let most_bytes = within.brief in
       (omega (arith, few, count, most), omega (arith, brief, bytes, most_bytes))
 
+  few_runs : (runs : List Run) → AreRuns image sup runs → length runs ≤ most_runs
+  few_runs runs are =
+      let numbers : List ℕ = numbers_of walk.names in
+      let within = distinct_few runs (flat_map (number_runs image sup) numbers) (distinct_of runs are.differ)
+      (λ run among.
+      let is = All-contains (IsRun image sup) runs run are.each among in
+      let has = is.has.has in
+      runs_found image sup numbers run is (number_is run.number has.place has.depth has.path has.reached)) in
+      let counted = files_counted image sup volume sound walk.names filed files_are in
+      omega (arith, within, counted)
+
   none_over : (bound : Bound) (most : ℕ) → IsOverIn image sup volume bound most → ⊥
   none_over bound most (LongPath number place depth path reached long) =
       let named = named_at number place depth path reached in
@@ -262,11 +275,7 @@ module _ (image : List ℕ) (sup : Super) (volume : ℕ) (sound : wrong_field su
       let S : ℕ → Type 0 = λ n. stored_inode image sup n ≡ named.name.inode in
       let inode_is = subst S named.number_is mine in
       in_none named.name (named.ahead (ap is_directory (sym inode_is) ∙ is) (omega (arith, before, last, deep)))
-  none_over bound most (ManyRuns (OfDirectories refused)) = not_both walk (Limit Runs most_runs) (result_of image (volume_names sup)) names_are refused
-  none_over bound most (ManyRuns (OfFiles other gives refused)) =
-      let same : other ≡ walk = same_value {E = Refusal} other walk (sym gives ∙ names_are) in
-      let P : Walk → Type 0 = λ w. result_of image (named_files sup volume w.names) ≡ Err (Limit Runs most_runs) in
-      not_both filed (Limit Runs most_runs) (result_of image (named_files sup volume walk.names)) files_are (subst P same refused)
+  none_over bound most (ManyRuns runs are many) = let few = few_runs runs are in omega (arith, few, many)
 
 -- ---- a volume that is read
 

@@ -6,7 +6,8 @@ use Rattle.std.proofs.lemmas.List.Sums.{sum_by-append, sum_by-cons}
 use Rattle.std.proofs.lemmas.List.Elements.{All-head, All-tail, All-cons, All-nil, Contains-append_left, Contains-append_right, Contains-append_cases}
 use Rattle.ufs_volume_defs.specs.Names.{Named, path_bytes}
 use Rattle.ufs_damage_defs.specs.Damage.{AreApart}
-use Rattle.ufs_damage_defs.proofs.NameFacts.{in_none, in_cases}
+use Rattle.ufs_damage_defs.proofs.NameFacts.{in_cases}
+use Rattle.ufs_damage_defs.proofs.Distinct.{IsSplit, split_at}
 
 -- a name of a list is given by the same entry, and has the same path
 pub record HasMatch (names : List Named) (name : Named) : Type 0 where
@@ -15,19 +16,6 @@ pub record HasMatch (names : List Named) (name : Named) : Type 0 where
   pub directory : other.directory ≡ name.directory
   pub offset : other.offset ≡ name.offset
   pub path : other.path ≡ name.path
-
-record IsSplit (names : List Named) (name : Named) : Type 0 where
-  front : List Named
-  back : List Named
-  whole : names ≡ front ++ name ∷ back
-
-split_at : (names : List Named) (name : Named) → Contains names name → IsSplit names name
-split_at [] name has = absurd (in_none name has)
-split_at (first ∷ names) name has =
-    ⊎_elim
-    (λ same. record { front = []; back = names; whole = ap (λ n. n ∷ names) same })
-    (λ behind. let rest = split_at names name behind in record { front = first ∷ rest.front; back = rest.back; whole = ap (λ list. first ∷ list) rest.whole })
-    (in_cases first name names has)
 
 without : (names : List Named) (taken : Named) (split : IsSplit names taken) (name : Named) → HasMatch names name → (taken.directory ≡ name.directory → taken.offset ≡ name.offset → ⊥) → HasMatch (split.front ++ split.back) name
 without names taken split name has apart =

@@ -1,7 +1,7 @@
--- What refuses a walk over directories is wrong with the volume, or is the limit on runs.
+-- What refuses a walk over directories is wrong with the volume.
 use Rattle.std.specs.Prelude.{◌≡◌, ◌⊎◌, ℕ, zero, suc, ◌+◌, ◌*◌, ◌%◌, ◌<◌, ◌≤◌, true, ◌==◌, None, Result, Ok, Err, List, [], ◌∷◌, ◌++◌, length, drop, refl}
 use Rattle.std.specs.List.{All, Contains, filter}
-use Rattle.std.proofs.Common.{ap, sym, ◌∙◌, subst, arith, inl, inr, ⊎_elim, append_assoc, append-nil}
+use Rattle.std.proofs.Common.{ap, sym, ◌∙◌, subst, arith, inr, ⊎_elim, append_assoc, append-nil}
 use Rattle.std.proofs.lemmas.Bool.Decides.{Decides-eqb}
 use Rattle.std.proofs.lemmas.List.Elements.{All-push, All-head, All-tail, All-cons, All-nil, All-weaker, All-filter, All-append, All-contains_itself, Contains-append_right, filter_passes}
 use Rattle.image_defs.specs.Ask.{Ask, Done, result_of, check, given, ◌>>=◌}
@@ -12,11 +12,12 @@ use Rattle.piece_defs.specs.Places.{place_through}
 use Rattle.fault_defs.specs.declared.Refusal.{Refusal}
 use Rattle.fault_defs.specs.declared.Refusal.TheVariants.{Damaged, Limit}
 use Rattle.fault_defs.specs.declared.Sort.TheVariants.{RootKind, DirSize, DirEntry}
-use Rattle.fault_defs.specs.declared.Bound.TheVariants.{Depth, Runs}
+use Rattle.fault_defs.specs.declared.Bound.TheVariants.{Depth}
 use Rattle.ufs_inode_defs.specs.Superblock.{block_size, wrong_field, super_place}
 use Rattle.ufs_inode_defs.specs.Inode.{is_directory, size_place, inode_named}
 use Rattle.ufs_inode_defs.specs.Stream.{content_stream, block_count}
 use Rattle.ufs_inode_defs.specs.Blocks.{Laid, runs_of, most_runs, stream_blocks}
+use Rattle.ufs_inode_defs.specs.StreamLaws.{IsLaidOut}
 use Rattle.ufs_inode_defs.specs.BlockPlace.{byte_place}
 use Rattle.ufs_inode_defs.specs.declared.superblock.Super.{Super}
 use Rattle.ufs_inode_defs.specs.declared.inode.Inode.{Inode}
@@ -25,9 +26,12 @@ use Rattle.ufs_inode_defs.proofs.SoundSuper.{is_sound, has_pointers}
 use Rattle.ufs_volume_defs.specs.Directory.{Entry, entries_of, leading_entries}
 use Rattle.ufs_volume_defs.specs.Names.{Named, Walk, with_runs, names_directory, deepest, Block, name_by, entry_name, leading, block_names, directory_blocks, directory_names, directories_behind, names_below, root_inode, root_name, names_from, volume_names}
 use Rattle.ufs_damage_defs.specs.Damage.{HasBlock, block_bytes, IsGoodDirectory, Root, HasSoundInode, NoDirectory, BadPointer, OtherSize, InHole, BadEntry, Deep}
-use Rattle.ufs_damage_defs.proofs.Walks.{same_value, same_error, through_keeps, StopsAt, through_stops_at}
-use Rattle.ufs_damage_defs.proofs.StreamDamage.{StopsStream, AtPointer, AtRuns}
-use Rattle.ufs_damage_defs.proofs.StreamStops.{stream_stops, stream_sound}
+use Rattle.ufs_damage_defs.proofs.Walks.{same_value, same_error, through_keeps, StopsAt, through_stops_at, Walks, through_walks}
+use Rattle.ufs_damage_defs.proofs.StreamStops.{stream_sound}
+use Rattle.ufs_damage_defs.proofs.StreamMaps.{HasShape}
+use Rattle.ufs_damage_defs.proofs.StreamCounts.{StopsStream, AtPointer, AtRuns, stream_counted, stream_stops}
+use Rattle.ufs_damage_defs.proofs.Visits.{stream_starts}
+use Rattle.ufs_damage_defs.proofs.Runs.{part_laid, AreWalked, none_walked, walked_more, many_directories}
 use Rattle.ufs_damage_defs.proofs.InodeDamage.{IsWrongIn, both_ways, named_gives, named_is, named_refused}
 use Rattle.ufs_damage_defs.proofs.DirectoryLaws.{AreRising, leading_rise, AreBlocks, blocks_are, hole_of}
 use Rattle.ufs_damage_defs.proofs.NameFacts.{in_none, in_cases, in_head, in_tail, IsKnown, known_more, AreOnce, once_behind, AreFresh, fresh_of, dropped}
@@ -36,11 +40,10 @@ use Rattle.ufs_damage_defs.proofs.Contents.{wider, pieces_place, good_of, block_
 
 -- ---- the walk
 
--- a refusal is wrong with the volume, or the limit on runs
-abbrev pub StopsIn : List ℕ → Super → ℕ → Refusal → Type 0
-StopsIn image sup volume e = IsWrongIn image sup volume e ⊎ (Limit Runs most_runs ≡ e)
-
 module _ (image : List ℕ) (sup : Super) (volume : ℕ) (root : Inode) (sound : wrong_field sup ≡ None) where
+  pointers : HasPointers sup
+  pointers = has_pointers sup (is_sound sup sound)
+
   -- a walk at a depth that began with some names: those that were found behind them
   pub record IsLevel (depth : ℕ) (walked : List ℕ) (start names : List Named) : Type 0 where
     pub walks : IsWalk image sup volume root walked names
@@ -109,10 +112,10 @@ module _ (image : List ℕ) (sup : Super) (volume : ℕ) (root : Inode) (sound :
             among = All-tail (Contains (leading_entries entries)) entry left state.among;
           })
 
-      entry_stops : (e : Refusal) → StopsAt image (entry_name sup directory block) (InBlock block entries) e → StopsIn image sup volume e
+      entry_stops : (e : Refusal) → StopsAt image (entry_name sup directory block) (InBlock block entries) e → IsWrongIn image sup volume e
       entry_stops e stops =
-          inl (entry_refused image sup volume root depth directory block stops.item (entry_is stops.item stops.rest stops.state stops.holds) walked stops.state stops.holds.level.walks
-          (in_front stops.item stops.rest stops.state stops.holds) e stops.is)
+          entry_refused image sup volume root depth directory block stops.item (entry_is stops.item stops.rest stops.state stops.holds) walked stops.state stops.holds.level.walks
+          (in_front stops.item stops.rest stops.state stops.holds) e stops.is
 
     -- in front of some blocks
     pub record AtBlocks (pieces : List Piece) (left : List Block) (walk : Walk) : Type 0 where
@@ -183,7 +186,7 @@ module _ (image : List ℕ) (sup : Super) (volume : ℕ) (root : Inode) (sound :
           one_more : (n unit : ℕ) → suc n * unit ≡ n * unit + unit
           one_more n unit = omega arith
 
-      block_stops : HasSoundInode image sup directory.number directory.inode → (e : Refusal) → StopsAt image (block_names sup directory) (AtBlocks pieces) e → StopsIn image sup volume e
+      block_stops : HasSoundInode image sup directory.number directory.inode → (e : Refusal) → StopsAt image (block_names sup directory) (AtBlocks pieces) e → IsWrongIn image sup volume e
       unfolding block_names
       block_stops has_inode e stops =
           let block : Block = stops.item in
@@ -192,7 +195,7 @@ module _ (image : List ℕ) (sup : Super) (volume : ℕ) (root : Inode) (sound :
           ⊎_elim
           (λ bad.
           let place = leading_refuses block.at (entries_of sup.order bytes) e bad in
-          inl (subst (IsWrongIn image sup volume) place.2 (BadEntry directory.number block.index block.at place.0 directory.inode has_inode good there place.1)))
+          subst (IsWrongIn image sup volume) place.2 (BadEntry directory.number block.index block.at place.0 directory.inode has_inode good there place.1))
           (λ read.
           let entries = leading_gives block.at (entries_of sup.order bytes) read.0 read.1 in
           let G : List Entry → Type 0 = λ leads. result_of image (through (entry_name sup directory block) stops.state leads) ≡ Err e in
@@ -212,6 +215,33 @@ module _ (image : List ℕ) (sup : Super) (volume : ℕ) (root : Inode) (sound :
     pub found : All (IsFound image sup volume root depth) left
     pub are : All (λ name. names_directory name ≡ true) left
     pub in_start : All (Contains start) left
+
+  -- of which the runs were counted
+  record AreCounted (depth : ℕ) (start : List Named) (left : List Named) (walk : Walk) : Type 0 where
+    at : AtDirectories depth start left walk
+    counted : AreWalked image sup at.walked walk.runs
+    few : walk.runs ≤ most_runs
+
+  -- names in a directory's blocks leave the runs as they are
+  entry_keeps : (directory : Named) (block : Block) → Walks image (entry_name sup directory block) (λ walk. Unit {0}) (λ walk after. walk.runs ≡ after.runs) (λ entry walk. Unit {0})
+  entry_keeps directory block = record {
+    same = λ walk. refl;
+    more = λ walk next after first second. first ∙ second;
+    stays = λ entry walk after same holds. tt;
+    steps = λ entry walk after holds gives. (tt, ap (λ w. w.runs) (entry_gives image sup directory block walk entry after gives).counted.is, tt);
+  }
+
+  block_keeps : (directory : Named) → Walks image (block_names sup directory) (λ walk. Unit {0}) (λ walk after. walk.runs ≡ after.runs) (λ block walk. Unit {0})
+  unfolding block_names
+  block_keeps directory = record {
+    same = λ walk. refl;
+    more = λ walk next after first second. first ∙ second;
+    stays = λ block walk after same holds. tt;
+    steps = λ block walk after holds gives.
+        let step = given_gives image (leading block.at (entries_of sup.order (block_bytes image sup directory.inode block.index block.at))) (λ leads. through (entry_name sup directory block) walk leads) after gives in
+        let kept = through_walks image (entry_name sup directory block) (λ w. Unit {0}) (λ w next. w.runs ≡ next.runs) (λ entry w. Unit {0}) (entry_keeps directory block) step.0 walk after tt step.2 in
+        (tt, kept.1, tt);
+  }
 
   pub sound_inode_of : (depth : ℕ) (name : Named) → IsFound image sup volume root depth name → HasSoundInode image sup name.number name.inode
   sound_inode_of depth name found =
@@ -283,35 +313,65 @@ module _ (image : List ℕ) (sup : Super) (volume : ℕ) (root : Inode) (sound :
           in_start = All-tail (Contains start) directory left state.in_start;
         }
 
-    stream_wrong : (e : Refusal) → StopsStream image sup (content_stream sup directory.inode) e → StopsIn image sup volume e
-    stream_wrong e (AtPointer place bad) =
-        inl (BadPointer directory.number directory.inode (content_part sup directory.inode) place (sound_inode_of depth directory of) (content_section sup directory.inode is_one) bad)
-    stream_wrong e AtRuns = inr refl
+  -- with the runs of a directory
+  module _ (depth : ℕ) (start : List Named) (directory : Named) (left : List Named) (walk : Walk) (state : AreCounted depth start (directory ∷ left) walk) where
+    has_inode : HasSoundInode image sup directory.number directory.inode
+    has_inode = sound_inode_of depth directory (of depth start directory left walk state.at)
 
-    directory_stops : (e : Refusal) → result_of image (directory_names sup walk directory) ≡ Err e → StopsIn image sup volume e
+    directory_is : is_directory directory.inode ≡ true
+    directory_is = is_one depth start directory left walk state.at
+
+    content_laid : HasShape (content_stream sup directory.inode) × IsLaidOut image sup (content_stream sup directory.inode)
+    content_laid = part_laid image sup directory.number directory.inode (content_part sup directory.inode) sound has_inode.read (content_section sup directory.inode directory_is)
+
+    walked_with : AreWalked image sup (directory.number ∷ state.at.walked) (walk.runs + length (stream_starts image sup (content_stream sup directory.inode)))
+    walked_with = walked_more image sup state.at.walked walk.runs directory.number directory.inode state.counted state.at.fresh.0 has_inode directory_is
+
+    counted_goes_on : (after : Walk) → result_of image (directory_names sup walk directory) ≡ Ok after → AreCounted depth start left after
+    unfolding directory_names directory_goes_on
+    counted_goes_on after gives =
+        let inode : Inode = directory.inode in
+        let whole = check_gives image (inode.size % 512 == 0) (Damaged DirSize (size_place sup inode)) _ after gives in
+        let laid = bind_gives image (stream_blocks sup (content_stream sup inode) walk.runs) (λ laid. given (directory_blocks sup inode laid.pieces) >>= (λ blocks. through (block_names sup directory) (with_runs walk (runs_of laid)) blocks)) after whole.1 in
+        let blocks = given_gives image (directory_blocks sup inode laid.0.pieces) (λ blocks. through (block_names sup directory) (with_runs walk (runs_of laid.0)) blocks) after laid.2 in
+        let kept = (through_walks image (block_names sup directory) (λ w. Unit {0}) (λ w next. w.runs ≡ next.runs) (λ block w. Unit {0}) (block_keeps directory) blocks.0 (with_runs walk (runs_of laid.0)) after tt blocks.2).1 in
+        let counted = stream_counted image sup (content_stream sup inode) pointers content_laid.0 walk.runs state.few laid.0 laid.1 (content_laid.1 walk.runs laid.0 laid.1).0 in
+        let few = counted.1 in
+        record {
+          at = directory_goes_on depth start directory left walk state.at after gives;
+          counted = subst (AreWalked image sup (directory.number ∷ state.at.walked)) (sym counted.0 ∙ kept) walked_with;
+          few = omega (arith, few, kept);
+        }
+
+    stream_wrong : (e : Refusal) → StopsStream image sup (content_stream sup directory.inode) (walk.runs + length (stream_starts image sup (content_stream sup directory.inode))) e → IsWrongIn image sup volume e
+    stream_wrong e (AtPointer place bad) = BadPointer directory.number directory.inode (content_part sup directory.inode) place has_inode (content_section sup directory.inode directory_is) bad
+    stream_wrong e (AtRuns many) =
+        many_directories image sup pointers volume (directory.number ∷ state.at.walked) (walk.runs + length (stream_starts image sup (content_stream sup directory.inode))) walked_with many
+
+    directory_stops : (e : Refusal) → result_of image (directory_names sup walk directory) ≡ Err e → IsWrongIn image sup volume e
     unfolding directory_names
     directory_stops e is =
         let inode : Inode = directory.inode in
-        let has = sound_inode_of depth directory of in
-        let pointers : HasPointers sup = has_pointers sup (is_sound sup sound) in
+        let has = has_inode in
+        let found = of depth start directory left walk state.at in
         let rest : Laid → Ask Refusal Walk = λ laid. given (directory_blocks sup inode laid.pieces) >>= (λ blocks. through (block_names sup directory) (with_runs walk (runs_of laid)) blocks) in
         ⊎_elim
-        (λ odd. inl (subst (IsWrongIn image sup volume) odd.1 (OtherSize directory.number inode has is_one (λ same. both_ways (inode.size % 512 == 0) ((Decides-eqb (inode.size % 512) 0).1 same) odd.0))))
+        (λ odd. subst (IsWrongIn image sup volume) odd.1 (OtherSize directory.number inode has directory_is (λ same. both_ways (inode.size % 512 == 0) ((Decides-eqb (inode.size % 512) 0).1 same) odd.0)))
         (λ whole. ⊎_elim
-        (λ unlaid. stream_wrong e (stream_stops image sup (content_stream sup inode) pointers walk.runs e unlaid))
+        (λ unlaid. stream_wrong e (stream_stops image sup (content_stream sup inode) pointers content_laid.0 walk.runs state.few e unlaid))
         (λ laid. ⊎_elim
         (λ no_blocks.
         let hole = hole_of sup inode laid.0.pieces e no_blocks in
-        inl (subst (IsWrongIn image sup volume) hole.3
-        (InHole directory.number inode has is_one (stream_sound image sup (content_stream sup inode) pointers walk.runs laid.0 laid.1)
-        (record { index = hole.0; below = hole.1; none = sym (pieces_place image sup sound directory.number inode walk.runs laid.0 has.read laid.1 hole.0 hole.1) ∙ hole.2 }))))
+        subst (IsWrongIn image sup volume) hole.3
+        (InHole directory.number inode has directory_is (stream_sound image sup (content_stream sup inode) pointers walk.runs laid.0 laid.1)
+        (record { index = hole.0; below = hole.1; none = sym (pieces_place image sup sound directory.number inode walk.runs laid.0 has.read laid.1 hole.0 hole.1) ∙ hole.2 })))
         (λ blocks.
-        let good = good_of image sup sound directory.number inode walk.runs laid.0 blocks.0 has.read is_one ((Decides-eqb (inode.size % 512) 0).0 whole.0) laid.1 blocks.1 in
+        let good = good_of image sup sound directory.number inode walk.runs laid.0 blocks.0 has.read directory_is ((Decides-eqb (inode.size % 512) 0).0 whole.0) laid.1 blocks.1 in
         let places = pieces_place image sup sound directory.number inode walk.runs laid.0 has.read laid.1 in
-        block_stops depth directory of good (directory.number ∷ state.walked) (in_head directory.number state.walked) start laid.0.pieces places has e
-        (through_stops_at image (block_names sup directory) (AtBlocks depth directory of good (directory.number ∷ state.walked) (in_head directory.number state.walked) start laid.0.pieces)
-        (block_goes_on depth directory of good (directory.number ∷ state.walked) (in_head directory.number state.walked) start laid.0.pieces places)
-        blocks.0 (with_runs walk (runs_of laid.0)) e (at_blocks laid.0 blocks.0 good blocks.1) blocks.2))
+        block_stops depth directory found good (directory.number ∷ state.at.walked) (in_head directory.number state.at.walked) start laid.0.pieces places has e
+        (through_stops_at image (block_names sup directory) (AtBlocks depth directory found good (directory.number ∷ state.at.walked) (in_head directory.number state.at.walked) start laid.0.pieces)
+        (block_goes_on depth directory found good (directory.number ∷ state.at.walked) (in_head directory.number state.at.walked) start laid.0.pieces places)
+        blocks.0 (with_runs walk (runs_of laid.0)) e (at_blocks depth start directory left walk state.at laid.0 blocks.0 good blocks.1) blocks.2))
         (given_refuses image (directory_blocks sup inode laid.0.pieces) (λ blocks. through (block_names sup directory) (with_runs walk (runs_of laid.0)) blocks) e laid.2))
         (bind_refuses image (stream_blocks sup (content_stream sup inode) walk.runs) rest e whole.1))
         (check_refuses image (inode.size % 512 == 0) (Damaged DirSize (size_place sup inode)) (λ x. stream_blocks sup (content_stream sup inode) walk.runs >>= rest) e is)
@@ -352,22 +412,27 @@ module _ (image : List ℕ) (sup : Super) (volume : ℕ) (root : Inode) (sound :
       ap (λ names. filter names_directory (drop (length walk.names) names)) level.grown ∙ ap (filter names_directory) (dropped walk.names more) in
       let P : List Named → Type 0 = λ names. AreOnce (λ n. ⊥) names in
       let once : AreOnce (λ n. ⊥ ⊎ IsKnown n walk.names) more = once_behind (λ n. ⊥) walk.names more (subst P level.grown level.walks.once) in
-      let K : List Named → Type 0 = λ directories. IsAtDepth (suc depth) after.names directories in
+      let K : List Named → Type 0 = λ directories. AreFresh state.walked directories × All (IsFound image sup volume root (suc depth)) directories × All (λ name. names_directory name ≡ true) directories × All (Contains after.names) directories in
       let N : List Named → Type 0 = λ names. All (Contains names) (filter names_directory more) in
       let in_more : All (Contains (walk.names ++ more)) more = All-weaker (Contains more) (Contains (walk.names ++ more)) (λ name has. Contains-append_right walk.names more name has) more (All-contains_itself more) in
-      subst K (sym behind)
-      (record {
+      let ahead = subst K (sym behind) (
+        fresh_of (λ n. ⊥ ⊎ IsKnown n walk.names) state.walked more once (λ n has. inr (state.known n has)),
+        All-filter names_directory (IsFound image sup volume root (suc depth)) more level.found,
+        filter_passes names_directory more,
+        subst N (sym level.grown) (All-filter names_directory (Contains (walk.names ++ more)) more in_more),
+      ) in
+      record {
         walked = state.walked;
         walks = level.walks;
         known = λ n has. let M : List Named → Type 0 = λ names. IsKnown n names in subst M (sym level.grown) (known_more n walk.names more (state.known n has));
-        fresh = fresh_of (λ n. ⊥ ⊎ IsKnown n walk.names) state.walked more once (λ n has. inr (state.known n has));
-        found = All-filter names_directory (IsFound image sup volume root (suc depth)) more level.found;
-        are = filter_passes names_directory more;
-        in_names = subst N (sym level.grown) (All-filter names_directory (Contains (walk.names ++ more)) more in_more);
+        fresh = ahead.0;
+        found = ahead.1;
+        are = ahead.2;
+        in_names = ahead.3;
         all =
             let S : List Named → Type 0 = λ names. All IsSomewhere names in
             subst S (sym level.grown) (All-append IsSomewhere walk.names more all (All-weaker (IsFound image sup volume root (suc depth)) IsSomewhere (λ name found. (suc depth, found)) more level.found));
-      })
+      }
 
   pub depth_goes_on : (depth : ℕ) (walk after : Walk) (directories : List Named) → IsAtDepth depth walk.names directories → result_of image (through (directory_names sup) walk directories) ≡ Ok after
       → IsAtDepth (suc depth) after.names (directories_behind (length walk.names) after.names)
@@ -375,24 +440,42 @@ module _ (image : List ℕ) (sup : Super) (volume : ℕ) (root : Inode) (sound :
       deeper depth walk after state.all
       (through_keeps image (directory_names sup) (AtDirectories depth walk.names) (λ directory left w next at is. directory_goes_on depth walk.names directory left w at next is) directories walk after (at_directories depth walk directories state) gives)
 
-  below_stops : (depths depth : ℕ) (walk : Walk) (directories : List Named) (e : Refusal) → depth + depths ≡ suc deepest → IsAtDepth depth walk.names directories
-      → result_of image (names_below depths sup walk directories) ≡ Err e → StopsIn image sup volume e
+  -- in front of the directories of a depth, with the runs so far
+  record IsCountedAt (depth : ℕ) (walk : Walk) (directories : List Named) : Type 0 where
+    at : IsAtDepth depth walk.names directories
+    counted : AreWalked image sup at.walked walk.runs
+    few : walk.runs ≤ most_runs
+
+  counted_directories : (depth : ℕ) (walk : Walk) (directories : List Named) → IsCountedAt depth walk directories → AreCounted depth walk.names directories walk
+  unfolding at_directories
+  counted_directories depth walk directories state = record { at = at_directories depth walk directories state.at; counted = state.counted; few = state.few }
+
+  counted_deeper : (depth : ℕ) (walk after : Walk) (directories : List Named) → IsCountedAt depth walk directories → result_of image (through (directory_names sup) walk directories) ≡ Ok after
+      → IsCountedAt (suc depth) after (directories_behind (length walk.names) after.names)
+  unfolding deeper
+  counted_deeper depth walk after directories state gives =
+      let end = through_keeps image (directory_names sup) (AreCounted depth walk.names) (λ directory left w next here is. counted_goes_on depth walk.names directory left w here next is) directories walk after
+      (counted_directories depth walk directories state) gives in
+      record { at = deeper depth walk after state.at.all end.at; counted = end.counted; few = end.few }
+
+  below_stops : (depths depth : ℕ) (walk : Walk) (directories : List Named) (e : Refusal) → depth + depths ≡ suc deepest → IsCountedAt depth walk directories
+      → result_of image (names_below depths sup walk directories) ≡ Err e → IsWrongIn image sup volume e
   unfolding names_below
   below_stops depths depth walk [] e total state is = absurd cc
   below_stops zero depth walk (directory ∷ directories) e total state is =
-      let found = All-head (IsFound image sup volume root depth) directory directories state.found in
+      let found = All-head (IsFound image sup volume root depth) directory directories state.at.found in
       let same = (named_is image sup volume directory.number found.place directory.inode found.read).is in
       let P : Inode → Type 0 = λ inode. is_directory inode ≡ true in
-      inl (subst (IsWrongIn image sup volume) (same_error {X = Walk} (Limit Depth deepest) e is)
-      (Deep directory.number found.place depth directory.path found.reached (subst P (sym same) (All-head (λ (name : Named). names_directory name ≡ true) directory directories state.are)) (omega (arith, total))))
+      subst (IsWrongIn image sup volume) (same_error {X = Walk} (Limit Depth deepest) e is)
+      (Deep directory.number found.place depth directory.path found.reached (subst P (sym same) (All-head (λ (name : Named). names_directory name ≡ true) directory directories state.at.are)) (omega (arith, total)))
   below_stops (suc depths) depth walk (directory ∷ directories) e total state is =
       ⊎_elim
       (λ here.
-      let stops = through_stops_at image (directory_names sup) (AtDirectories depth walk.names) (λ one left w next at gives. directory_goes_on depth walk.names one left w at next gives) (directory ∷ directories) walk e
-      (at_directories depth walk (directory ∷ directories) state) here in
+      let stops = through_stops_at image (directory_names sup) (AreCounted depth walk.names) (λ one left w next at gives. counted_goes_on depth walk.names one left w at next gives) (directory ∷ directories) walk e
+      (counted_directories depth walk (directory ∷ directories) state) here in
       directory_stops depth walk.names stops.item stops.rest stops.state stops.holds e stops.is)
       (λ later.
-      below_stops depths (suc depth) later.0 (directories_behind (length walk.names) later.0.names) e (omega (arith, total)) (depth_goes_on depth walk later.0 (directory ∷ directories) state later.1) later.2)
+      below_stops depths (suc depth) later.0 (directories_behind (length walk.names) later.0.names) e (omega (arith, total)) (counted_deeper depth walk later.0 (directory ∷ directories) state later.1) later.2)
       (bind_refuses image (through (directory_names sup) walk (directory ∷ directories)) (λ after. names_below depths sup after (directories_behind (length walk.names) after.names)) e is)
 
   -- where the walk ends, it has names of all depths
@@ -427,6 +510,10 @@ module _ (image : List ℕ) (sup : Super) (volume : ℕ) (root : Inode) (sound :
         all = All-cons IsSomewhere (root_name root) [] (0, found) (All-nil IsSomewhere);
       }
 
+  counted_root : result_of image (inode_named sup 2 (super_place sup)) ≡ Ok root → is_directory root ≡ true → IsCountedAt 0 (record { names = root_name root ∷ []; runs = 0 }) (root_name root ∷ [])
+  unfolding at_root
+  counted_root read is = record { at = at_root read is; counted = none_walked image sup; few = omega arith }
+
 -- ---- the names of a volume
 
 -- the root of a volume is read, and is a directory
@@ -460,15 +547,15 @@ module _ (image : List ℕ) (sup : Super) (volume : ℕ) (sound : wrong_field su
       never : (inode : Inode) → (let r : Result Inode Refusal = Ok inode in r ≡ Err e) → ⊥
       never inode same = absurd cc
 
-  pub names_stop : (e : Refusal) → result_of image (volume_names sup) ≡ Err e → StopsIn image sup volume e
+  pub names_stop : (e : Refusal) → result_of image (volume_names sup) ≡ Err e → IsWrongIn image sup volume e
   unfolding volume_names
   names_stop e is =
       ⊎_elim
-      (λ no_root. inl (root_stops e no_root))
+      (λ no_root. root_stops e no_root)
       (λ root.
       let has = root_gives root.0 root.1 in
       let walk : Walk = record { names = root_name root.0 ∷ []; runs = 0 } in
-      below_stops image sup volume root.0 sound (suc deepest) 0 walk (root_name root.0 ∷ []) e (omega arith) (at_root image sup volume root.0 sound has.read has.directory) root.2)
+      below_stops image sup volume root.0 sound (suc deepest) 0 walk (root_name root.0 ∷ []) e (omega arith) (counted_root image sup volume root.0 sound has.read has.directory) root.2)
       (bind_refuses image (root_inode sup) (names_from sup) e is)
 
   -- the names that a walk found

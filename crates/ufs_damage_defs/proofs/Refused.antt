@@ -1,6 +1,6 @@
 -- What refuses a volume is wrong with it.
 use Rattle.std.specs.Prelude.{◌≡◌, ℕ, nat_le, None, Result, Ok, Err, List, length}
-use Rattle.std.proofs.Common.{ap, sym, ◌∙◌, subst, ⊎_elim}
+use Rattle.std.proofs.Common.{subst, ⊎_elim}
 use Rattle.std.proofs.lemmas.Bool.{leb-false}
 use Rattle.range_defs.specs.declared.Range.{Range}
 use Rattle.range_defs.specs.declared.TheConstants.{LONGEST_IMAGE}
@@ -9,17 +9,16 @@ use Rattle.image_defs.specs.Ask.{Ask, Done, result_of, check, ◌>>=◌, ◌>>�
 use Rattle.image_defs.proofs.Looks.{bind_refuses, check_refuses}
 use Rattle.fault_defs.specs.declared.Refusal.{Refusal}
 use Rattle.fault_defs.specs.declared.Refusal.TheVariants.{NotThis, Damaged, Unsupported, Limit}
-use Rattle.fault_defs.specs.declared.Bound.TheVariants.{Image, Runs}
+use Rattle.fault_defs.specs.declared.Bound.TheVariants.{Image}
 use Rattle.ufs_inode_defs.specs.Superblock.{wrong_field, volume_super}
-use Rattle.ufs_inode_defs.specs.Blocks.{most_runs}
 use Rattle.ufs_inode_defs.specs.declared.superblock.Super.{Super}
 use Rattle.ufs_volume_defs.specs.Names.{volume_names}
 use Rattle.ufs_volume_defs.specs.Files.{Filed, named_files}
 use Rattle.ufs_volume_defs.specs.Volume.{FoundVolume, files_below, volume_at}
-use Rattle.ufs_damage_defs.specs.Damage.{HasMagic, HasSuper, WrongField, FalseIn, UnsupportedIn, LongImage, OverIn, ManyRuns, CountsMore, OfDirectories, OfFiles, IsWrong}
+use Rattle.ufs_damage_defs.specs.Damage.{HasMagic, HasSuper, WrongField, FalseIn, UnsupportedIn, LongImage, OverIn, IsWrong}
 use Rattle.ufs_damage_defs.proofs.SuperDamage.{super_refused, super_sound}
 use Rattle.ufs_damage_defs.proofs.InodeDamage.{IsWrongIn}
-use Rattle.ufs_damage_defs.proofs.NameDamage.{StopsIn, names_stop, names_give}
+use Rattle.ufs_damage_defs.proofs.NameDamage.{names_stop, names_give}
 use Rattle.ufs_damage_defs.proofs.FileDamage.{files_stop}
 
 module _ (orders : List Order) (image : List ℕ) (volume : Range) (number : ℕ) where
@@ -30,9 +29,6 @@ module _ (orders : List Order) (image : List ℕ) (volume : Range) (number : ℕ
   wrong_in sup (Unsupported what place) has wrong = UnsupportedIn sup what place has wrong
   wrong_in sup (Limit bound most) has wrong = OverIn sup bound most has wrong
 
-  counted : (sup : Super) (e : Refusal) → (Limit Runs most_runs ≡ e → CountsMore image sup number) → StopsIn image sup number e → IsWrongIn image sup number e
-  counted sup e more stops = ⊎_elim (λ wrong. wrong) (λ runs. subst (IsWrongIn image sup number) runs (ManyRuns (more runs))) stops
-
   never : {X : Type 0} (x : X) (e : Refusal) → (let r : Result X Refusal = Ok x in r ≡ Err e) → ⊥
   never x e same = absurd cc
 
@@ -41,9 +37,9 @@ module _ (orders : List Order) (image : List ℕ) (volume : Range) (number : ℕ
   below_refused sup e sound is =
       let done : Filed → Ask Refusal FoundVolume = λ filed. Done (record { superblock = sup; files = filed.files }) in
       ⊎_elim
-      (λ no_names. counted sup e (λ same. OfDirectories (no_names ∙ ap Err (sym same))) (names_stop image sup number sound e no_names))
+      (λ no_names. names_stop image sup number sound e no_names)
       (λ walk. ⊎_elim
-      (λ no_files. counted sup e (λ same. OfFiles walk.0 walk.1 (no_files ∙ ap Err (sym same))) (files_stop image sup number sound walk.0 e (names_give image sup number sound walk.0 walk.1) no_files))
+      (λ no_files. files_stop image sup number sound walk.0 e (names_give image sup number sound walk.0 walk.1) no_files)
       (λ filed. absurd (never (record { superblock = sup; files = filed.0.files }) e filed.2))
       (bind_refuses image (named_files sup number walk.0.names) done e walk.2))
       (bind_refuses image (volume_names sup) (λ walk. named_files sup number walk.names >>= done) e is)

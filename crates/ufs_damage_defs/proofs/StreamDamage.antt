@@ -1,26 +1,24 @@
--- A walk over the pointers of a stream stops at one that leads out, and where it ends no pointer that is used does.
-use Rattle.std.specs.Prelude.{◌≡◌, ◌⊎◌, ℕ, zero, suc, ◌+◌, ◌*◌, ◌<◌, ◌≤◌, ℤ, pos, negsuc, Bool, true, false, nat_le, if◌then◌else◌, Result, Ok, Err, List, [], ◌∷◌, drop, length, refl}
-use Rattle.std.proofs.Common.{ap, sym, subst, arith, ⊎_elim, inl, inr}
+-- How far a walk over the pointers of a stream has come.
+use Rattle.std.specs.Prelude.{◌≡◌, ◌⊎◌, ℕ, zero, suc, ◌+◌, ◌*◌, ◌<◌, ◌≤◌, ℤ, pos, negsuc, nat_le, Ok, List, [], ◌∷◌, drop, length, refl}
+use Rattle.std.proofs.Common.{ap, subst, arith, ⊎_elim, inl, inr}
 use Rattle.std.proofs.lemmas.Bool.{leb-true}
 use Rattle.bytes_defs.specs.Bytes.{part}
-use Rattle.bytes_defs.specs.Numbers.{signed_at}
-use Rattle.image_defs.specs.Ask.{Ask, Done, result_of, look, ◌>>=◌}
+use Rattle.image_defs.specs.Ask.{result_of, look, ◌>>=◌}
 use Rattle.image_defs.specs.Through.{through}
-use Rattle.image_defs.proofs.Looks.{bind_gives, check_gives, bind_refuses, check_refuses}
+use Rattle.image_defs.proofs.Looks.{bind_gives, check_gives}
 use Rattle.fault_defs.specs.declared.Refusal.{Refusal}
-use Rattle.fault_defs.specs.declared.Refusal.TheVariants.{Damaged, Limit}
+use Rattle.fault_defs.specs.declared.Refusal.TheVariants.{Damaged}
 use Rattle.fault_defs.specs.declared.Sort.TheVariants.{BlockPointer}
-use Rattle.fault_defs.specs.declared.Bound.TheVariants.{Runs}
 use Rattle.ufs_inode_defs.specs.Layout.{layout_of, pointer_len}
 use Rattle.ufs_inode_defs.specs.Numbers.{signed_row}
 use Rattle.ufs_inode_defs.specs.Superblock.{block_size}
 use Rattle.ufs_inode_defs.specs.Stream.{Pointer, Stream, pointers_from, span, block_count, allocated_len}
-use Rattle.ufs_inode_defs.specs.Blocks.{Laid, runs_of, most_runs, with_hole, with_block, with_visit, counted_runs, fragment_place, lies_within, led, mapped_blocks}
+use Rattle.ufs_inode_defs.specs.Blocks.{Laid, with_hole, with_block, with_visit, counted_runs, fragment_place, lies_within, led, mapped_blocks}
 use Rattle.ufs_inode_defs.specs.declared.superblock.Super.{Super}
-use Rattle.ufs_inode_defs.proofs.BlockSteps.{HasPointers, counted_gives}
-use Rattle.ufs_inode_defs.proofs.BlockLaw.{IsRow, rows_of, past_or, not_past}
-use Rattle.ufs_damage_defs.specs.StreamDamage.{IsUsed, Below, HasBadPointer}
-use Rattle.ufs_damage_defs.proofs.Walks.{same_value, same_error}
+use Rattle.ufs_inode_defs.proofs.BlockSteps.{counted_gives}
+use Rattle.ufs_inode_defs.proofs.BlockLaw.{past_or}
+use Rattle.ufs_damage_defs.specs.StreamDamage.{IsUsed}
+use Rattle.ufs_damage_defs.proofs.Walks.{same_value}
 
 -- ---- how far a walk has come
 
@@ -114,108 +112,6 @@ moves_by (suc level) image sup size = λ laid after pointer gives.
         (children_move level image sup size moves pointers laid.block visited.0 after start visited.2)
     by_value moves laid after at (negsuc n) gives = absurd cc
 
--- ---- where a walk stops
-
--- what stops a walk: a pointer that leads out, or the limit on runs
-pub data StopsStream (image : List ℕ) (sup : Super) (stream : Stream) : Refusal → Type 0 where
-  AtPointer : (place : ℕ) → HasBadPointer image sup stream place → StopsStream image sup stream (Damaged BlockPointer place)
-  AtRuns : StopsStream image sup stream (Limit Runs most_runs)
-
-counted_stops : (image : List ℕ) (sup : Super) (stream : Stream) (laid : Laid) (e : Refusal) → result_of image (counted_runs laid) ≡ Err e → StopsStream image sup stream e
-counted_stops image sup stream laid e is =
-    ⊎_elim
-    (λ over. subst (StopsStream image sup stream) over.1 AtRuns)
-    (λ few. absurd (never few.1))
-    (check_refuses image (nat_le (runs_of laid) most_runs) (Limit Runs most_runs) (λ x. Done laid) e is)
-  where
-    never : (let r : Result Laid Refusal = Ok laid in r ≡ Err e) → ⊥
-    never same = absurd cc
-
 -- the pointer to which a walk comes is used, if it maps a block in front of the end
 abbrev pub IsNext : ℕ → List ℕ → Super → Stream → Laid → Pointer → Type 0
 IsNext level image sup stream laid pointer = laid.block < block_count sup stream.size → IsUsed image sup stream level laid.block pointer
-
-abbrev pub Stops : ℕ → List ℕ → Super → Stream → Type 0
-Stops level image sup stream =
-    (laid : Laid) (at : ℕ) (value : ℤ) (e : Refusal) → IsNext level image sup stream laid (record { at = at; value = value })
-    → result_of image (mapped_blocks level sup stream.size laid (record { at = at; value = value })) ≡ Err e → StopsStream image sup stream e
-
-past_stops : (image : List ℕ) (past : Bool) (laid : Laid) (e : Refusal) (more : Ask Refusal Laid) → result_of image (if past then Done laid else more) ≡ Err e → (past ≡ false) × (result_of image more ≡ Err e)
-past_stops image true laid e more is = absurd cc
-past_stops image false laid e more is = (refl, is)
-
--- the pointer of a number in a block of pointers
-children_stop : (level : ℕ) (image : List ℕ) (sup : Super) (stream : Stream) → Stops level image sup stream → (first fragment : ℕ) (above : Pointer) → IsUsed image sup stream (suc level) first above
-    → above.value ≡ pos (suc fragment) → lies_within sup (suc fragment) (block_size sup) ≡ true → (more number at : ℕ) (bytes : List ℕ) (laid : Laid) (e : Refusal) → number + more ≡ sup.nindir
-    → at ≡ fragment_place sup (suc fragment) + number * pointer_len sup.version → IsRow image sup (fragment_place sup (suc fragment)) more number bytes
-    → HasComeTo sup stream.size (first + number * span sup level) laid
-    → result_of image (through (mapped_blocks level sup stream.size) laid (pointers_from at (pointer_len sup.version) (signed_row sup.order (layout_of sup.version).pointer more bytes))) ≡ Err e → StopsStream image sup stream e
-children_stop level image sup stream stops first fragment above used leads within zero number at bytes laid e total stands row has is = absurd cc
-children_stop level image sup stream stops first fragment above used leads within (suc more) number at bytes laid e total stands row has is =
-    let place : ℕ = fragment_place sup (suc fragment) in
-    let value : ℤ = signed_at sup.order (layout_of sup.version).pointer bytes 0 in
-    let next : Laid → Ask Refusal Laid =
-    λ after. through (mapped_blocks level sup stream.size) after (pointers_from (at + pointer_len sup.version) (pointer_len sup.version) (signed_row sup.order (layout_of sup.version).pointer more (drop (pointer_len sup.version) bytes))) in
-    ⊎_elim
-    (λ here.
-    stops laid at value e
-    (λ below.
-    let is_first : laid.block ≡ first + number * span sup level = there sup stream.size (first + number * span sup level) laid has below in
-    let P : ℕ → Type 0 = λ block. IsUsed image sup stream level block (record { at = at; value = value }) in
-    let A : ℕ → Type 0 = λ n. IsUsed image sup stream level (first + number * span sup level) (record { at = n; value = value }) in
-    let V : ℤ → Type 0 = λ v. IsUsed image sup stream level (first + number * span sup level) (record { at = place + number * pointer_len sup.version; value = v }) in
-    subst P (sym is_first) (subst A (sym stands) (subst V (sym row.0) (Below level first number fragment above used leads within (omega (arith, total)) (omega (arith, is_first, below))))))
-    here)
-    (λ later.
-    let step : Laid = later.0 in
-    let to : first + number * span sup level + span sup level ≡ first + (number + 1) * span sup level = omega arith in
-    let Q : ℕ → Type 0 = λ block. HasComeTo sup stream.size block step in
-    children_stop level image sup stream stops first fragment above used leads within more (number + 1) (at + pointer_len sup.version) (drop (pointer_len sup.version) bytes) step e (omega (arith, total)) (omega (arith, stands)) row.1
-    (subst Q to (moves_on sup stream.size (first + number * span sup level) (span sup level) laid step has (moves_by level image sup stream.size laid step (record { at = at; value = value }) later.1)))
-    later.2)
-    (bind_refuses image (mapped_blocks level sup stream.size laid (record { at = at; value = value })) next e is)
-
-pub stops_by : (level : ℕ) (image : List ℕ) (sup : Super) (stream : Stream) → HasPointers sup → Stops level image sup stream
-unfolding mapped_blocks
-stops_by zero image sup stream has = λ laid at value e next is.
-    let inside = past_stops image (nat_le (block_count sup stream.size) laid.block) laid e _ is in
-    by_value laid at value e (next (not_past (block_count sup stream.size) laid.block inside.0)) inside.1
-  where
-    by_value : (laid : Laid) (at : ℕ) (value : ℤ) (e : Refusal) → IsUsed image sup stream 0 laid.block (record { at = at; value = value })
-        → result_of image (led sup (record { at = at; value = value }) (allocated_len sup stream.size laid.block) (counted_runs (with_hole sup stream.size 1 laid)) (λ place. counted_runs (with_block sup stream.size place laid))) ≡ Err e
-        → StopsStream image sup stream e
-    by_value laid at (pos zero) e used is = counted_stops image sup stream (with_hole sup stream.size 1 laid) e is
-    by_value laid at (pos (suc fragment)) e used is =
-        ⊎_elim
-        (λ out. subst (StopsStream image sup stream) out.1 (AtPointer at (record { level = 0; first = laid.block; pointer = record { at = at; value = pos (suc fragment) }; used = used; out = out.0; stands = refl })))
-        (λ within. counted_stops image sup stream (with_block sup stream.size (fragment_place sup (suc fragment)) laid) e within.1)
-        (check_refuses image (lies_within sup (suc fragment) (allocated_len sup stream.size laid.block)) (Damaged BlockPointer at) (λ x. counted_runs (with_block sup stream.size (fragment_place sup (suc fragment)) laid)) e is)
-    by_value laid at (negsuc n) e used is =
-        subst (StopsStream image sup stream) (same_error {X = Laid} (Damaged BlockPointer at) e is)
-        (AtPointer at (record { level = 0; first = laid.block; pointer = record { at = at; value = negsuc n }; used = used; out = tt; stands = refl }))
-stops_by (suc level) image sup stream has = λ laid at value e next is.
-    let inside = past_stops image (nat_le (block_count sup stream.size) laid.block) laid e _ is in
-    by_value (stops_by level image sup stream has) laid at value e (next (not_past (block_count sup stream.size) laid.block inside.0)) inside.1
-  where
-    by_value : Stops level image sup stream → (laid : Laid) (at : ℕ) (value : ℤ) (e : Refusal) → IsUsed image sup stream (suc level) laid.block (record { at = at; value = value })
-        → result_of image (led sup (record { at = at; value = value }) (block_size sup) (counted_runs (with_hole sup stream.size (span sup (suc level)) laid))
-        (λ place. counted_runs (with_visit laid) >>= (λ visited. look place (block_size sup) >>= (λ bytes. through (mapped_blocks level sup stream.size) visited (pointers_from place (pointer_len sup.version) (signed_row sup.order (layout_of sup.version).pointer sup.nindir bytes)))))) ≡ Err e
-        → StopsStream image sup stream e
-    by_value stops laid at (pos zero) e used is = counted_stops image sup stream (with_hole sup stream.size (span sup (suc level)) laid) e is
-    by_value stops laid at (pos (suc fragment)) e used is =
-        let place : ℕ = fragment_place sup (suc fragment) in
-        let bytes : List ℕ = part image place (block_size sup) in
-        let rest : Laid → Ask Refusal Laid = λ visited. look place (block_size sup) >>= (λ found. through (mapped_blocks level sup stream.size) visited (pointers_from place (pointer_len sup.version) (signed_row sup.order (layout_of sup.version).pointer sup.nindir found))) in
-        ⊎_elim
-        (λ out. subst (StopsStream image sup stream) out.1 (AtPointer at (record { level = suc level; first = laid.block; pointer = record { at = at; value = pos (suc fragment) }; used = used; out = out.0; stands = refl })))
-        (λ within. ⊎_elim
-        (λ over. counted_stops image sup stream (with_visit laid) e over)
-        (λ visited.
-        children_stop level image sup stream stops laid.block fragment (record { at = at; value = pos (suc fragment) }) used refl within.0 sup.nindir 0 place bytes visited.0 e (omega arith) (omega arith) (rows_of image sup has place)
-        (same_block sup stream.size (laid.block + 0 * span sup level) (with_visit laid) visited.0 (counted_gives image (with_visit laid) visited.0 visited.1) (record { fits = omega arith; come = inl (omega arith) }))
-        visited.2)
-        (bind_refuses image (counted_runs (with_visit laid)) rest e within.1))
-        (check_refuses image (lies_within sup (suc fragment) (block_size sup)) (Damaged BlockPointer at) (λ x. counted_runs (with_visit laid) >>= rest) e is)
-    by_value stops laid at (negsuc n) e used is =
-        subst (StopsStream image sup stream) (same_error {X = Laid} (Damaged BlockPointer at) e is)
-        (AtPointer at (record { level = suc level; first = laid.block; pointer = record { at = at; value = negsuc n }; used = used; out = tt; stands = refl }))

@@ -1,12 +1,12 @@
--- A stream whose walk stops has a pointer that leads out, or more runs than the limit; one whose walk ends has no such pointer.
-use Rattle.std.specs.Prelude.{◌≡◌, ℕ, zero, suc, ◌+◌, ◌*◌, ◌<◌, ◌≤◌, ℤ, pos, negsuc, Bool, true, false, nat_le, if◌then◌else◌, Ok, Err, List, [], ◌∷◌, drop, length, refl}
-use Rattle.std.proofs.Common.{ap, sym, ◌∙◌, subst, arith, ⊎_elim, inl}
+-- A walk over the pointers of a stream that ends has visited each that is used, and none of them leads out.
+use Rattle.std.specs.Prelude.{◌≡◌, ℕ, zero, suc, ◌+◌, ◌*◌, ◌<◌, ◌≤◌, ℤ, pos, negsuc, Bool, true, false, nat_le, if◌then◌else◌, Ok, List, [], ◌∷◌, drop, length, refl}
+use Rattle.std.proofs.Common.{ap, sym, ◌∙◌, subst, arith, inl}
 use Rattle.std.proofs.lemmas.Bool.{leb-true}
 use Rattle.bytes_defs.specs.Bytes.{part}
 use Rattle.bytes_defs.specs.Numbers.{signed_at}
 use Rattle.image_defs.specs.Ask.{Ask, Done, result_of}
 use Rattle.image_defs.specs.Through.{through}
-use Rattle.image_defs.proofs.Looks.{bind_gives, check_gives, bind_refuses}
+use Rattle.image_defs.proofs.Looks.{bind_gives, check_gives}
 use Rattle.fault_defs.specs.declared.Refusal.{Refusal}
 use Rattle.fault_defs.specs.declared.Refusal.TheVariants.{Damaged}
 use Rattle.fault_defs.specs.declared.Sort.TheVariants.{BlockPointer}
@@ -24,73 +24,22 @@ use Rattle.range_defs.specs.Places.{covers}
 use Rattle.image_defs.specs.Ask.{visits}
 use Rattle.ufs_damage_defs.proofs.Seen.{IsWithin, within_first, within_next, within_check, within_behind, within_look}
 use Rattle.ufs_damage_defs.specs.StreamDamage.{StandsAt, first_mapped, IsUsed, Direct, Rising, Below, LeadsOut, led_len, HasBadPointer}
-use Rattle.ufs_damage_defs.proofs.StreamDamage.{HasComeTo, here, there, moves_on, moves_by, children_move, StopsStream, stops_by, same_block}
+use Rattle.ufs_damage_defs.proofs.Visits.{used_below}
+use Rattle.ufs_damage_defs.proofs.StreamDamage.{HasComeTo, here, moves_on, moves_by, children_move, same_block}
 
 module _ (image : List ℕ) (sup : Super) (stream : Stream) (has : HasPointers sup) where
-  -- ---- where the walk stops
-
-  direct_stops : (pointers : List Pointer) (number : ℕ) (laid : Laid) (e : Refusal) → ((i : ℕ) (pointer : Pointer) → StandsAt pointers i pointer → StandsAt stream.direct (number + i) pointer)
-      → HasComeTo sup stream.size number laid → result_of image (through (mapped_blocks 0 sup stream.size) laid pointers) ≡ Err e → StopsStream image sup stream e
-  direct_stops [] number laid e stand come is = absurd cc
-  direct_stops (pointer ∷ pointers) number laid e stand come is =
-      ⊎_elim
-      (λ first.
-      stops_by 0 image sup stream has laid pointer.at pointer.value e
-      (λ below.
-      let is_first : laid.block ≡ number + 0 = omega (arith, there sup stream.size number laid come below) in
-      let P : ℕ → Type 0 = λ block. IsUsed image sup stream 0 block pointer in
-      subst P (sym is_first) (Direct (number + 0) pointer (stand 0 pointer refl) (omega (arith, is_first, below))))
-      first)
-      (λ later.
-      let to : number + 1 ≡ suc number = omega arith in
-      let Q : ℕ → Type 0 = λ block. HasComeTo sup stream.size block later.0 in
-      direct_stops pointers (suc number) later.0 e
-      (λ i p stands. let same : number + suc i ≡ suc number + i = omega arith in let R : ℕ → Type 0 = λ n. StandsAt stream.direct n p in subst R same (stand (suc i) p stands))
-      (subst Q to (moves_on sup stream.size number 1 laid later.0 come (moves_by 0 image sup stream.size laid later.0 pointer later.1)))
-      later.2)
-      (bind_refuses image (mapped_blocks 0 sup stream.size laid pointer) (λ after. through (mapped_blocks 0 sup stream.size) after pointers) e is)
-
-  rising_stops : (pointers : List Pointer) (number : ℕ) (laid : Laid) (e : Refusal) → ((i : ℕ) (pointer : Pointer) → StandsAt pointers i pointer → StandsAt stream.indirect (number + i) pointer)
-      → HasComeTo sup stream.size (first_mapped sup stream number) laid → result_of image (rising_blocks (suc number) sup stream.size laid pointers) ≡ Err e → StopsStream image sup stream e
-  rising_stops [] number laid e stand come is = absurd cc
-  rising_stops (pointer ∷ pointers) number laid e stand come is =
-      ⊎_elim
-      (λ first.
-      stops_by (suc number) image sup stream has laid pointer.at pointer.value e
-      (λ below.
-      let is_first : laid.block ≡ first_mapped sup stream number = there sup stream.size (first_mapped sup stream number) laid come below in
-      let same : number + 0 ≡ number = omega arith in
-      let R : ℕ → Type 0 = λ n. StandsAt stream.indirect n pointer in
-      let P : ℕ → Type 0 = λ block. IsUsed image sup stream (suc number) block pointer in
-      subst P (sym is_first) (Rising number pointer (subst R same (stand 0 pointer refl)) (omega (arith, is_first, below))))
-      first)
-      (λ later.
-      rising_stops pointers (suc number) later.0 e
-      (λ i p stands. let same : number + suc i ≡ suc number + i = omega arith in let R : ℕ → Type 0 = λ n. StandsAt stream.indirect n p in subst R same (stand (suc i) p stands))
-      (moves_on sup stream.size (first_mapped sup stream number) (span sup (suc number)) laid later.0 come (moves_by (suc number) image sup stream.size laid later.0 pointer later.1))
-      later.2)
-      (bind_refuses image (mapped_blocks (suc number) sup stream.size laid pointer) (λ after. rising_blocks (suc (suc number)) sup stream.size after pointers) e is)
-
-  start : (runs : ℕ) → HasComeTo sup stream.size 0 (none_laid runs)
+  pub start : (runs : ℕ) → HasComeTo sup stream.size 0 (none_laid runs)
   start runs = record { fits = omega arith; come = inl refl }
 
   -- behind the direct pointers
-  direct_passed : (runs : ℕ) (laid : Laid) → result_of image (through (mapped_blocks 0 sup stream.size) (none_laid runs) stream.direct) ≡ Ok laid → HasComeTo sup stream.size (first_mapped sup stream 0) laid
+  pub direct_passed : (runs : ℕ) (laid : Laid) → result_of image (through (mapped_blocks 0 sup stream.size) (none_laid runs) stream.direct) ≡ Ok laid → HasComeTo sup stream.size (first_mapped sup stream 0) laid
   direct_passed runs laid gives =
       let to : 0 + length stream.direct * 1 ≡ length stream.direct = omega arith in
       let Q : ℕ → Type 0 = λ block. HasComeTo sup stream.size block laid in
       subst Q to (children_move 0 image sup stream.size (moves_by 0 image sup stream.size) stream.direct 0 (none_laid runs) laid (start runs) gives)
 
-  from_0 : (n : ℕ) → 0 + n ≡ n
+  pub from_0 : (n : ℕ) → 0 + n ≡ n
   from_0 n = omega arith
-
-  pub stream_stops : (runs : ℕ) (e : Refusal) → result_of image (stream_blocks sup stream runs) ≡ Err e → StopsStream image sup stream e
-  unfolding stream_blocks
-  stream_stops runs e is =
-      ⊎_elim
-      (λ first. direct_stops stream.direct 0 (none_laid runs) e (λ i p stands. let D : ℕ → Type 0 = λ n. StandsAt stream.direct n p in subst D (sym (from_0 i)) stands) (start runs) first)
-      (λ later. rising_stops stream.indirect 0 later.0 e (λ i p stands. let I : ℕ → Type 0 = λ n. StandsAt stream.indirect n p in subst I (sym (from_0 i)) stands) (direct_passed runs later.0 later.1) later.2)
-      (bind_refuses image (through (mapped_blocks 0 sup stream.size) (none_laid runs) stream.direct) (λ direct. rising_blocks 1 sup stream.size direct stream.indirect) e is)
 
   -- in front of the end a walk goes on
   goes_on : (past : Bool) (laid after : Laid) (more : Ask Refusal Laid) (block : ℕ) → laid.block ≡ block → block < block_count sup stream.size → nat_le (block_count sup stream.size) laid.block ≡ past
@@ -102,11 +51,6 @@ module _ (image : List ℕ) (sup : Super) (stream : Stream) (has : HasPointers s
       → IsWithin image ranges (if past then Done laid else more) → IsWithin image ranges more
   within_on ranges true laid more block at below is within = absurd (omega (arith, at, below, leb-true (block_count sup stream.size) laid.block is))
   within_on ranges false laid more block at below is within = within
-
-  pub is_below : (level first : ℕ) (pointer : Pointer) → IsUsed image sup stream level first pointer → first < block_count sup stream.size
-  is_below level first pointer (Direct block p stands below) = below
-  is_below level first pointer (Rising number p stands below) = below
-  is_below level first pointer (Below l f number fragment above used leads within inside below) = below
 
   module _ (ranges : List Range) where
     -- ---- what the walk passes
@@ -257,7 +201,7 @@ module _ (image : List ℕ) (sup : Super) (stream : Stream) (has : HasPointers s
           subst N (from_0 number) (rising_visits stream.indirect 0 number pointer step.0 laid (direct_passed runs step.0 step.1) stands (subst B (sym (from_0 number)) below) step.2
           (within_next image ranges (through (mapped_blocks 0 sup stream.size) (none_laid runs) stream.direct) (λ direct. rising_blocks 1 sup stream.size direct stream.indirect) step.0 step.1 within))
       used_visited level first pointer (Below l f number fragment above used leads within inside below) =
-          visits_below level f number fragment above.at above.value (used_visited (suc level) f above used) (is_below (suc level) f above used) leads inside below
+          visits_below level f number fragment above.at above.value (used_visited (suc level) f above used) (used_below image sup stream (suc level) f above used) leads inside below
 
       visited_in : (level first at : ℕ) (value : ℤ) → IsVisited level first (record { at = at; value = value }) → first < block_count sup stream.size → LeadsOut sup (led_len sup stream level first) value → ⊥
       unfolding mapped_blocks
@@ -287,11 +231,11 @@ module _ (image : List ℕ) (sup : Super) (stream : Stream) (has : HasPointers s
       pub pointers_seen : (level first fragment : ℕ) (pointer : Pointer) → IsUsed image sup stream (suc level) first pointer → pointer.value ≡ pos (suc fragment)
           → (byte : ℕ) → fragment_place sup (suc fragment) ≤ byte → byte < fragment_place sup (suc fragment) + block_size sup → covers ranges byte ≡ true
       pointers_seen level first fragment pointer used leads =
-          pointers_looked level first fragment pointer.at pointer.value (used_visited (suc level) first pointer used) (is_below (suc level) first pointer used) leads
+          pointers_looked level first fragment pointer.at pointer.value (used_visited (suc level) first pointer used) (used_below image sup stream (suc level) first pointer used) leads
 
       none_bad : (place : ℕ) → HasBadPointer image sup stream place → ⊥
       none_bad place bad =
-          visited_in bad.level bad.first bad.pointer.at bad.pointer.value (used_visited bad.level bad.first bad.pointer bad.used) (is_below bad.level bad.first bad.pointer bad.used) bad.out
+          visited_in bad.level bad.first bad.pointer.at bad.pointer.value (used_visited bad.level bad.first bad.pointer bad.used) (used_below image sup stream bad.level bad.first bad.pointer bad.used) bad.out
 
   -- so none of a stream whose walk ends leads out
   pub stream_sound : (runs : ℕ) (laid : Laid) → result_of image (stream_blocks sup stream runs) ≡ Ok laid → (place : ℕ) → HasBadPointer image sup stream place → ⊥

@@ -26,10 +26,10 @@ use Rattle.ufs_inode_defs.specs.BlockPlace.{byte_place}
 use Rattle.ufs_inode_defs.specs.declared.superblock.Super.{Super}
 use Rattle.ufs_inode_defs.specs.declared.inode.Inode.{Inode}
 use Rattle.ufs_volume_defs.specs.Directory.{Entry, entries_of, leading_entries}
-use Rattle.ufs_volume_defs.specs.Names.{Named, Walk, path_bytes, longest_path, most_names, most_path_bytes, deepest, volume_names}
-use Rattle.ufs_volume_defs.specs.Files.{Section, sections_of, named_files}
+use Rattle.ufs_volume_defs.specs.Names.{Named, path_bytes, longest_path, most_names, most_path_bytes, deepest}
+use Rattle.ufs_volume_defs.specs.Files.{Section, sections_of}
 use Rattle.ufs_volume_defs.specs.Volume.{FoundVolume, volume_at}
-use Rattle.ufs_damage_defs.specs.StreamDamage.{HasBadPointer}
+use Rattle.ufs_damage_defs.specs.StreamDamage.{HasBadPointer, Start, BeginsRun}
 
 -- ---- the superblock
 
@@ -176,10 +176,23 @@ pub record AreNames (image : List ℕ) (sup : Super) (names : List Named) : Type
   pub given : All (λ name. (place : ℕ) × IsGiven image sup name place) names
   pub apart : AllPairs AreApart names
 
--- the walk over the directories, or that over the files behind it, counts more runs than the limit
-pub data CountsMore (image : List ℕ) (sup : Super) (number : ℕ) : Type 0 where
-  OfDirectories : result_of image (volume_names sup) ≡ Err (Limit Runs most_runs) → CountsMore image sup number
-  OfFiles : (walk : Walk) → result_of image (volume_names sup) ≡ Ok walk → result_of image (named_files sup number walk.names) ≡ Err (Limit Runs most_runs) → CountsMore image sup number
+-- a run: the number of an inode, a part of it, and where in that part's stream it begins
+pub record Run : Type 0 where
+  pub number : ℕ
+  pub section : Section
+  pub start : Start
+
+-- a run of a part of a sound inode that is reached
+pub record IsRun (image : List ℕ) (sup : Super) (run : Run) : Type 0 where
+  pub inode : Inode
+  pub has : HasSoundInode image sup run.number inode
+  pub part : Contains (sections_of sup inode) run.section
+  pub begins : BeginsRun image sup run.section.stream run.start
+
+-- runs, no two of which are the same
+pub record AreRuns (image : List ℕ) (sup : Super) (runs : List Run) : Type 0 where
+  pub each : All (IsRun image sup) runs
+  pub differ : AllPairs (λ a b. a ≡ b → ⊥) runs
 
 -- what a volume of a number with a sound superblock has more of than its limit: bytes of a path; names, beside the root's, and
 -- bytes of all of them; directories above one another; runs
@@ -189,7 +202,7 @@ pub data IsOverIn (image : List ℕ) (sup : Super) (number : ℕ) : Bound → �
   LongNames : (names : List Named) → AreNames image sup names → most_path_bytes < suc (path_bytes names) → IsOverIn image sup number PathBytes most_path_bytes
   Deep : (inode_number place depth : ℕ) (path : List ℕ) → IsReached image sup inode_number place depth path → is_directory (stored_inode image sup inode_number) ≡ true → deepest < depth
       → IsOverIn image sup number Depth deepest
-  ManyRuns : CountsMore image sup number → IsOverIn image sup number Runs most_runs
+  ManyRuns : (runs : List Run) → AreRuns image sup runs → most_runs < length runs → IsOverIn image sup number Runs most_runs
 
 pub data IsOver (orders : List Order) (image : List ℕ) (volume : Range) (number : ℕ) : Bound → ℕ → Type 0 where
   LongImage : LONGEST_IMAGE < length image → IsOver orders image volume number Image LONGEST_IMAGE

@@ -1,10 +1,10 @@
--- What is wrong with the pointers of a stream, in the words of the table of damage.
-use Rattle.std.specs.Prelude.{◌≡◌, ℕ, zero, suc, ◌+◌, ◌*◌, ◌<◌, ℤ, pos, negsuc, true, false, List, [], ◌∷◌, length}
+-- What is wrong with the pointers of a stream, in the words of the table of damage, and the runs of a stream.
+use Rattle.std.specs.Prelude.{◌≡◌, ℕ, zero, suc, ◌+◌, ◌*◌, ◌<◌, ℤ, pos, negsuc, true, false, Option, Some, None, List, [], ◌∷◌, length}
 use Rattle.ufs_inode_defs.specs.Layout.{pointer_len}
 use Rattle.ufs_inode_defs.specs.Superblock.{block_size}
 use Rattle.ufs_inode_defs.specs.Stream.{Pointer, Stream, span, block_count, allocated_len}
 use Rattle.ufs_inode_defs.specs.Blocks.{fragment_place, lies_within}
-use Rattle.ufs_inode_defs.specs.BlockPlace.{pointer_at}
+use Rattle.ufs_inode_defs.specs.BlockPlace.{pointer_at, byte_place}
 use Rattle.ufs_inode_defs.specs.declared.superblock.Super.{Super}
 
 -- a pointer stands in a list, behind so many others
@@ -49,3 +49,25 @@ pub record HasBadPointer (image : List ℕ) (sup : Super) (stream : Stream) (pla
   pub used : IsUsed image sup stream level first pointer
   pub out : LeadsOut sup (led_len sup stream level first) pointer.value
   pub stands : pointer.at ≡ place
+
+-- ---- runs
+
+-- a byte goes on where the one before it ends: neither stands anywhere, or it is the next on the disk
+abbrev pub GoesOn : Option ℕ → Option ℕ → Type 0
+GoesOn None None = Unit {0}
+GoesOn None (Some at) = ⊥
+GoesOn (Some before) None = ⊥
+GoesOn (Some before) (Some at) = suc before ≡ at
+
+-- where a run begins: a piece at a byte, or a block of pointers by its level and the first block that it maps
+pub data Start : Type 0 where
+  AtByte : ℕ → Start
+  AtPointers : ℕ → ℕ → Start
+
+-- A run of a stream: the piece that begins with its first byte, one that begins where a byte doesn't go on, and a block of
+-- pointers that is visited, since a pointer that is used leads to it.
+pub data BeginsRun (image : List ℕ) (sup : Super) (stream : Stream) : Start → Type 0 where
+  FirstPiece : 0 < stream.size → BeginsRun image sup stream (AtByte 0)
+  NextPiece : (byte : ℕ) → suc byte < stream.size → (GoesOn (byte_place image sup stream byte) (byte_place image sup stream (suc byte)) → ⊥) → BeginsRun image sup stream (AtByte (suc byte))
+  Visit : (level first fragment : ℕ) (pointer : Pointer) → IsUsed image sup stream (suc level) first pointer → pointer.value ≡ pos (suc fragment)
+      → BeginsRun image sup stream (AtPointers (suc level) first)
