@@ -1,9 +1,9 @@
 //! The lines of a report.
 ghost use Rattle.std.specs.Prelude.{◌≡◌, ◌+◌, ◌≤◌, ◌++◌, length};
-ghost use Rattle.std.specs.List.{flat_map};
 ghost use Rattle.arrayvec.specs.ArrayString.{array_string_len};
-ghost use Rattle.text_defs.specs.Report.{head_lines, range_line, listed_head, hex_text, state_word, planned_bytes};
+ghost use Rattle.text_defs.specs.Report as spec;
 
+use crate::pages::Page;
 use arrayvec::ArrayString;
 use itoa::{Buffer, Integer};
 use name_defs::hex_digit;
@@ -15,16 +15,8 @@ const MAX_LINE: usize = 192;
 
 pub(crate) type Line = ArrayString<MAX_LINE>;
 
-/// So many lines of ranges are put together before they are written.
-pub(crate) const LINES: usize = 60;
-
-/// Room for so many lines of ranges.
-const MAX_PAGE: usize = 8192;
-
-pub(crate) type Page = ArrayString<MAX_PAGE>;
-
-fn push_number<I: Integer>(line: &mut Line, number: I)
-    requires { array_string_len line.old + 40 ≤ 192 }
+fn push_number<const CAP: usize, I: Integer>(line: &mut ArrayString<CAP>, number: I)
+    requires { array_string_len line.old + 40 ≤ CAP }
     ensures bytes { line.new.bytes ≡ line.old.bytes ++ I.text number }
     ensures room { array_string_len line.new ≤ array_string_len line.old + 40 }
 {
@@ -32,8 +24,8 @@ fn push_number<I: Integer>(line: &mut Line, number: I)
 }
 
 #[tactic(auto, unfolding(text_defs::specs::Report::state_word))]
-fn word_of(state: ReportState) -> &'static str
-    ensures word { result.now ≡ state_word state }
+fn state_word(state: ReportState) -> &'static str
+    ensures word { result.now ≡ spec.state_word state }
     ensures short { length result.now ≤ 7 }
 {
     match state {
@@ -44,8 +36,8 @@ fn word_of(state: ReportState) -> &'static str
 }
 
 /// How many bytes the claims have together.
-fn total_bytes(claims: &[Claim]) -> u128
-    ensures { result ≡ planned_bytes claims.now }
+fn planned_bytes(claims: &[Claim]) -> u128
+    ensures { result ≡ spec.planned_bytes claims.now }
 {
     let mut total = 0u128;
     for claim in claims {
@@ -54,28 +46,29 @@ fn total_bytes(claims: &[Claim]) -> u128
     total
 }
 
+/// A page with the first lines.
 #[tactic(auto, unfolding(text_defs::specs::Report::head_lines))]
-pub(crate) fn head_of(plan: &Plan, state: ReportState) -> Line
-    ensures { result.bytes ≡ head_lines plan.now state }
+pub(crate) fn head_lines(plan: &Plan, state: ReportState) -> Page
+    ensures { result.bytes ≡ spec.head_lines plan.now state }
 {
     let ranges = plan.ranges.items();
-    let mut line = Line::new();
-    line.push_str("redaction ");
-    line.push_str(word_of(state));
-    line.push_str("\nimage ");
-    push_number(&mut line, plan.image_len);
-    line.push_str("\nranges ");
-    push_number(&mut line, ranges.len());
-    line.push_str("\nbytes ");
-    push_number(&mut line, total_bytes(ranges));
-    line.push_str("\n");
-    line
+    let mut page = Page::new();
+    page.push_str("redaction ");
+    page.push_str(state_word(state));
+    page.push_str("\nimage ");
+    push_number(&mut page, plan.image_len);
+    page.push_str("\nranges ");
+    push_number(&mut page, ranges.len());
+    page.push_str("\nbytes ");
+    push_number(&mut page, planned_bytes(ranges));
+    page.push_str("\n");
+    page
 }
 
 #[tactic(auto, unfolding(text_defs::specs::Report::hex_text))]
 fn push_fill(line: &mut Line, fill: u8)
     requires { array_string_len line.old + 4 ≤ 192 }
-    ensures bytes { line.new.bytes ≡ line.old.bytes ++ hex_text fill }
+    ensures bytes { line.new.bytes ≡ line.old.bytes ++ spec.hex_text fill }
     ensures room { array_string_len line.new ≡ array_string_len line.old + 4 }
 {
     line.push_str("0x");
@@ -84,9 +77,8 @@ fn push_fill(line: &mut Line, fill: u8)
 }
 
 #[tactic(auto, unfolding(text_defs::specs::Report::range_line))]
-fn line_of(claim: &Claim) -> Line
-    ensures line { result.bytes ≡ range_line claim.now }
-    ensures short { array_string_len result ≤ 134 }
+pub(crate) fn range_line(claim: &Claim) -> Line
+    ensures { result.bytes ≡ spec.range_line claim.now }
 {
     let mut line = Line::new();
     line.push_str("RANGE ");
@@ -101,22 +93,10 @@ fn line_of(claim: &Claim) -> Line
     line
 }
 
-/// The lines of ranges, as many as go out at a time.
-pub(crate) fn page_of(claims: &[Claim]) -> Page
-    requires { length claims.now ≤ LINES }
-    ensures { result.bytes ≡ flat_map range_line claims.now }
-{
-    let mut page = Page::new();
-    for claim in claims {
-        page.push_str(line_of(claim).as_str());
-    }
-    page
-}
-
 /// What stands before the path in the line of a listed name.
 #[tactic(auto, unfolding(text_defs::specs::Report::listed_head))]
-pub(crate) fn listed_head_of(listed: &Listed) -> Line
-    ensures { result.bytes ≡ listed_head listed.now.kind listed.now.rule }
+pub(crate) fn listed_head(listed: &Listed) -> Line
+    ensures { result.bytes ≡ spec.listed_head listed.now.kind listed.now.rule }
 {
     let mut line = Line::new();
     match listed.kind {

@@ -1,5 +1,5 @@
-//! The report of a small plan.
-ghost use Rattle.std.specs.Prelude.{◌≡◌};
+//! The report of a small plan, and of one whose listing has more bytes than a page.
+ghost use Rattle.std.specs.Prelude.{◌≡◌, Some};
 
 use super::*;
 use rx_ranges::{FillMap, ListKind, Listing, Range, Text};
@@ -31,6 +31,24 @@ fn plan(alloc: Global) -> Result<Plan, AllocError> {
         ranges: FillMap::from_sorted(claims),
         listing: Listing::from_vec(lines),
     })
+}
+
+/// A sink that counts its writes.
+#[derive(Drop)]
+struct CountingSink {
+    sink: MemSink,
+    writes: u64,
+}
+
+impl Sink for CountingSink {
+    ghost taken = { λ sink. Some sink.sink.bytes };
+
+    ghost faults = { λ sink. sink.sink.faults };
+
+    fn write(&mut self, bytes: &[u8]) -> Result<usize, Fault> {
+        self.writes = self.writes.saturating_add(1);
+        self.sink.write(bytes)
+    }
 }
 
 /// The text behind the first line.
@@ -66,5 +84,44 @@ fn a_sink_without_room_took_the_first_bytes(rt: HostRuntime) -> Result<(), Fail>
         );
         assert_eq!(rt; sink.bytes(), &text.as_bytes()[..room]);
     }
+    Ok(())
+}
+
+/// A path of 9,000 bytes.
+fn long_path(alloc: Global) -> Result<String, AllocError> {
+    let mut path = String::new(alloc);
+    for _ in 0..900 {
+        path.push_str("/some_name")?;
+    }
+    Ok(path)
+}
+
+#[test]
+fn a_listing_goes_out_in_pages(rt: HostRuntime) -> Result<(), Fail> {
+    let alloc = rt.alloc();
+    let mut text = String::from_str(
+        alloc,
+        "redaction planned\nimage 0\nranges 0\nbytes 0\n",
+    )?;
+    let mut lines = Vec::new(alloc);
+    for _ in 0..1000 {
+        text.push_str("FILE 3 /a\n")?;
+        lines.push(listed(alloc, ListKind::File, 3, "/a")?)?;
+    }
+    let path = long_path(alloc)?;
+    let text = format!(in alloc; "{text}ALIAS {path}\nFILE 2 /c\n")?;
+    lines.push(listed(alloc, ListKind::Alias, 0, path.as_str())?)?;
+    lines.push(listed(alloc, ListKind::File, 2, "/c")?)?;
+    let plan = Plan {
+        image_len: 0,
+        ranges: FillMap::from_sorted(Vec::new(alloc)),
+        listing: Listing::from_vec(lines),
+    };
+    let sink = MemSink::new(alloc, text.len())?;
+    let mut sink = CountingSink { sink, writes: 0 };
+    assert_eq!(rt; write_report(&mut sink, &plan, ReportState::Planned), Ok(()));
+    assert_eq!(rt; sink.sink.bytes(), text.as_bytes());
+    // two pages, the path by itself, and what is left
+    assert_eq!(rt; sink.writes, 4);
     Ok(())
 }
