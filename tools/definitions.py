@@ -1,12 +1,13 @@
 #!/usr/bin/env python3
 """Which definitions the contract of a public call rests on, and which definitions nothing uses.
 
-    tools/definitions.py                  the definitions that `run` of redact_cmd rests on, in reading order, a line each
-    tools/definitions.py --check PAGE     the same, and status 1 where PAGE lacks one of them
+    tools/definitions.py                  what `run` of redact_cmd rests on, a row each: the definitions, in the order of their files,
+                                          and then the traits, types and constants of .rt files that run and these name
+    tools/definitions.py --check PAGE     status 1 where PAGE lacks one of these rows, or has one more
     tools/definitions.py --unused         definitions, laws and lemmas of specs/ and proofs/ that nothing reaches
 
-It reads the source text alone: the clauses of crates/*/src, the `ghost use` lines that import their words, and the
-`use` lines of crates/*/specs and crates/*/proofs.
+It reads the source text alone: the clauses of crates/*/src, the `ghost use` lines that import their words, the declarations
+there, and the `use` lines of crates/*/specs and crates/*/proofs.
 """
 import pathlib
 import re
@@ -99,6 +100,8 @@ def words_of(text):
 
 
 def mentions(name, words, text):
+    if name in ("◌>>=◌", "◌>>◌") and "do" in words:
+        return True
     if "◌" in name:
         return all(part in text for part in name.split("◌") if part)
     return name in words
@@ -170,31 +173,26 @@ def header_of(text, name):
     return text[start.start() : text.index("\n{", start.start())] if start else None
 
 
-def rust_roots(tree, only=None):
+def header_roots(tree, path, header):
+    """The definitions that the clauses of a header in a file name."""
+    part = clauses(header)
+    words = words_of(part)
+    found = [(tree.find(module, whole), name) for name, (module, whole) in ghost_imports(path.read_text()).items() if whole]
+    return [definition for definition, name in found if definition and mentions(name, words, part)]
+
+
+def rust_roots(tree):
     roots = []
     for path in sorted(TOP.glob("*/src/**/*.rt")):
         text = path.read_text()
-        part = clauses(text)
-        if only:
-            if path.relative_to(TOP).parts[0] != only[0]:
-                continue
-            header = header_of(text, only[1])
-            if header is None:
-                continue
-            part = clauses(header)
-        words = words_of(part)
-        for name, (module, whole) in ghost_imports(text).items():
-            definition = tree.find(module, whole) if whole else None
-            if definition and mentions(name, words, part):
-                roots.append(definition)
-        if not only:
-            for crate_path in re.findall(r"(?:using|unfolding)\(([^)]*)\)", text):
-                for item in crate_path.split(","):
-                    parts = item.strip().split("::")
-                    parts[0] = path.relative_to(TOP).parts[0] if parts[0] == "crate" else parts[0]
-                    definition = tree.find(".".join(["Rattle"] + parts[:-1]), parts[-1])
-                    if definition:
-                        roots.append(definition)
+        roots += header_roots(tree, path, text)
+        for crate_path in re.findall(r"(?:using|unfolding)\(([^)]*)\)", text):
+            for item in crate_path.split(","):
+                parts = item.strip().split("::")
+                parts[0] = path.relative_to(TOP).parts[0] if parts[0] == "crate" else parts[0]
+                definition = tree.find(".".join(["Rattle"] + parts[:-1]), parts[-1])
+                if definition:
+                    roots.append(definition)
     return roots
 
 
@@ -202,7 +200,7 @@ def unused(tree):
     roots = rust_roots(tree)
     for module in tree.order:
         last = module.split(".")[-1]
-        if last in ("Answers", "Invariants", "Proof") or re.search(r"Rows|[a-z]T$", last):
+        if last in ("Answers", "Invariants", "Proof") or re.search(r"Rows?$|[a-z]T$", last):
             roots += list(tree.defs[module].values())
     seen = tree.reach(roots)
     for module in tree.order:
@@ -219,11 +217,84 @@ def inner(tree, definition):
     return [Def(definition.module, name, True, "") for name in names]
 
 
-def wanted_of(tree):
-    """The definitions on which the call rests, in the order of their files."""
-    seen = tree.reach(rust_roots(tree, CALL))
+DECLARATION = re.compile(r"((?:^///.*\n)*)(?:^#\[.*\]\n)*^pub (enum|struct|trait|const) (\w+)(?:.*;$|[^{;]*\{(?s:.*?)^\})", re.M)
+
+
+class Declared:
+    """A trait, a type or a constant of an .rt file, with its comment."""
+
+    def __init__(self, path, match):
+        self.path, self.kind, self.name, self.text = path, match[2], match[3], match[0]
+        self.says = " ".join(re.sub(r"^/// ?", "", match[1], flags=re.M).split())
+
+    def row(self):
+        number = re.search(r" = (\w+);", self.text) if self.kind == "const" else None
+        value = f" = {int(number[1], 0):,}" if number else ""
+        return f"`{self.name}`{value} ({self.path.relative_to(TOP.parent)})"
+
+
+class Sources:
+    """The declarations of the .rt files, by crate and name."""
+
+    def __init__(self):
+        self.of = {}
+        for path in sorted(TOP.glob("*/src/**/*.rt")):
+            for match in DECLARATION.finditer(path.read_text()):
+                self.of.setdefault((path.relative_to(TOP).parts[0], match[3]), Declared(path, match))
+
+    def named(self, path, text):
+        """The declarations that a text in a file names: those of its own crate, and those that it imports."""
+        crates = {name: path.relative_to(TOP).parts[0] for name in words_of(text)}
+        for crate, names in re.findall(r"^use (\w+)::(?:\w+::)*(\{[^}]*\}|\w+);", path.read_text(), re.M):
+            crates.update({name: crate for name in words_of(names) if name in crates and crate != "crate"})
+        return [self.of[crate, name] for name, crate in crates.items() if (crate, name) in self.of]
+
+    def reach(self, roots):
+        seen, left = set(), list(roots)
+        while left:
+            declared = left.pop()
+            if declared not in seen:
+                seen.add(declared)
+                left += self.named(declared.path, declared.text) if declared.kind != "const" else []
+        return sorted(seen, key=lambda declared: (declared.path, declared.name))
+
+    def imported(self, tree, definition):
+        """The declarations that a definition names."""
+        text = "\n".join(definition.text)
+        words, found = words_of(text), []
+        for name, (module, whole) in tree.imports[definition.module].items():
+            crate, _, inside = module.removeprefix("Rattle.").partition(".specs.declared.")
+            parts = [part for part in inside.split(".") + [whole or ""] if part and part != "TheVariants"]
+            found += [self.of[crate, part] for part in parts if mentions(name, words, text) and (crate, part) in self.of]
+        return found
+
+
+def rows_of(tree):
+    """The rows of what the call rests on, each with what it says."""
+    sources = Sources()
+    path = next(path for path in TOP.glob(f"{CALL[0]}/src/**/*.rt") if header_of(path.read_text(), CALL[1]))
+    header = header_of(path.read_text(), CALL[1])
+    traits = [declared for declared in sources.named(path, header) if declared.kind == "trait"]
+    roots = header_roots(tree, path, header) + [root for trait in traits for root in header_roots(tree, trait.path, trait.text)]
+    seen = tree.reach(roots)
     found = [d for module in tree.order for d in dict.fromkeys(tree.defs[module].values()) if d.key() in seen]
-    return [each for definition in found for each in inner(tree, definition)]
+    rows = {}
+    for definition in (each for outer in found for each in inner(tree, outer)):
+        _, crate, _, *file = definition.module.split(".")
+        rows[f"`{definition.name}` ({crate}, {'.'.join(file)})"] = definition.comment
+    declared = sources.reach(traits + [other for definition in found for other in sources.imported(tree, definition)])
+    rows.update({each.row(): each.says for each in declared})
+    return rows
+
+
+def differences(rows, page):
+    """What a page lacks of these rows, and what it has beside them."""
+    there = re.findall(r"^\| (`[^`]+`(?: = [\d,]+)? \([^)]*\)) \|", page, re.M)
+    return (
+        [f"the page lacks {row}" for row in rows if row not in there]
+        + [f"the page has {row}, on which run doesn't rest" for row in there if row not in rows]
+        + [f"the page has {row} twice" for row in sorted(set(there)) if there.count(row) > 1]
+    )
 
 
 def main():
@@ -231,15 +302,13 @@ def main():
     if "--unused" in sys.argv:
         unused(tree)
         return 0
-    wanted = wanted_of(tree)
+    rows = rows_of(tree)
     if "--check" in sys.argv:
-        page = pathlib.Path(sys.argv[sys.argv.index("--check") + 1]).read_text()
-        missing = [d for d in wanted if not re.search(rf"`{re.escape(d.name)}`", page)]
-        for definition in missing:
-            print(f"the page lacks {definition.name} of {definition.module}")
-        return 1 if missing else 0
-    for definition in wanted:
-        print(f"{definition.module.replace('Rattle.', '')}\t{definition.name}\t{definition.comment}")
+        differs = differences(rows, pathlib.Path(sys.argv[sys.argv.index("--check") + 1]).read_text())
+        print("\n".join(differs), end="\n" if differs else "")
+        return 1 if differs else 0
+    for row, says in rows.items():
+        print(f"| {row} | {says} |")
     return 0
 
 
