@@ -13,7 +13,7 @@ IsAnswer SinkFault = ⊥
 IsAnswer NoMemory = ⊥
 IsAnswer _ = Unit {0}
 
--- the statuses after which a store is as it was, but that it may have been synced: all but the two that come when a plan is being
+-- the statuses after which a store is as it was, but that it may have been synced: all but the three that come when a plan is being
 -- carried out or was
 abbrev pub IsRefusal : Status → Type 0
 IsRefusal Done = ⊥

@@ -20,7 +20,7 @@ use Rattle.cmd_defs.specs.declared.status.PlanRefusal.TheVariants.{MeetsGuard}
 use Rattle.cmd_defs.specs.declared.status.Status.{Status}
 use Rattle.cmd_defs.specs.declared.status.Status.TheVariants.{Done, NotBuilt, NotRecognised, Damaged, Unsupported, JournalOpen, PlanRefused, DeviceFault, SourceFault, SinkFault, Limit, NoMemory}
 
--- the rule text and the image have a plan that fills no byte of the guard, and the journal doesn't stand open
+-- the rule text and the image have a plan that fills no byte of the guard and has few enough ranges, and the journal doesn't stand open
 pub record IsPlanned (text : List ℕ) (held : Held) (rules : List Rule) (tree : TreeValue) : Type 0 where
   pub forms : MeetsForms text held.image rules tree
   pub closed : ¬ (IsOpen held.journal)

@@ -4,7 +4,8 @@ ghost use Rattle.range_defs.specs.Places.{covers, longest_ranges};
 ghost use Rattle.range_defs.specs.declared.TheConstants.{LONGEST_IMAGE};
 ghost use Rattle.rx_tree.specs.Within.{AreRangesWithin, AreFilesWithin};
 ghost use Rattle.rx_tree.specs.NameLimits.{has_few_names};
-ghost use Rattle.ufs_volume_defs.specs.Volume.{kind_of_version, tree_of};
+ghost use Rattle.ufs_volume_defs.specs.Volume as spec;
+ghost use Rattle.ufs_volume_defs.specs.Volume.{kind_of_version};
 
 use range_defs::Range;
 use rx_ranges::{NoMemory, RangeList};
@@ -56,7 +57,7 @@ fn guard_from(alloc: Global, size: u64, looked: Vec<Range>) -> Result<RangeList,
 
 /// The tree of the volume of a number in an image of `size` bytes, in which these files were found, and these ranges were
 /// looked at.
-pub(crate) fn tree_from(
+pub(crate) fn tree_of(
     alloc: Global,
     size: u64,
     sup: &Super,
@@ -70,7 +71,7 @@ pub(crate) fn tree_from(
     requires in_volume { All (λ file. file.id.volume ≡ number) files }
     requires few_names { has_few_names files ≡ true }
     requires looked { AreRangesWithin size looked.items }
-    ensures { IfOk result (λ tree. tree ≡ tree_of size (record { at = sup.now.at; len = sup.now.len }) number
+    ensures { IfOk result (λ tree. tree ≡ spec.tree_of size (record { at = sup.now.at; len = sup.now.len }) number
         (longest_ranges (covers looked.items) 0 size) (record { superblock = sup.now; files = files })) }
 {
     Ok(Tree {

@@ -13,7 +13,7 @@ ghost use Rattle.ufs_files.specs.Filed.{AreFilesOf};
 ghost use Rattle.ufs_files.specs.Guarded.{RestsOnGuard};
 
 use crate::second::read_files;
-use crate::tree::tree_from;
+use crate::tree::tree_of;
 use range_defs::{LONGEST_IMAGE, Range};
 use rx_store::{Area, Bound, ReadFault, Store};
 use rx_tree::{Files, Tree};
@@ -99,5 +99,5 @@ pub fn read_ufs<S: Store>(
         volume,
         &mut looked,
     )?;
-    Ok(tree_from(alloc, size, &superblock, volume, files, looked)?)
+    Ok(tree_of(alloc, size, &superblock, volume, files, looked)?)
 }

@@ -27,8 +27,8 @@ returns-in_err-superblock-clause-told g c =
     c.from_residual-in_err-superblock.result c.from_residual-in_err-superblock.ensures.0 c.from_residual-in_err-superblock.ensures.1 (ap told_image c.in_ok-size.ensures.same)
     (has_size (told_image (g.S.Store.state c.args.store.now)) c.in_ok-size.size _ c.in_ok-size.ensures.size (g.met.S.Store.tells_its_sizes c.args.store.now Image)) c.in_err-superblock.ensures.reads
 
-pub tree_from-requires-clause-within : goal.tree_from-requires-clause-within
-tree_from-requires-clause-within g c =
+pub tree_of-requires-clause-within : goal.tree_of-requires-clause-within
+tree_of-requires-clause-within g c =
     let found : FoundVolume = record { superblock = c.files.inside.superblock; files = c.files.inside.files } in
     let P : FoundVolume → Type 0 = λ f. AreFilesWithin (f.superblock.at + f.superblock.len) f.files in
     let Q : FoundVolume → Type 0 = λ f. f.superblock.at + f.superblock.len ≤ c.in_ok-size.size in
@@ -38,12 +38,12 @@ tree_from-requires-clause-within g c =
 pub returns-clause-told : goal.returns-clause-told
 returns-clause-told g c =
     tree_told (Little ∷ []) (record { at = c.args.at; len = c.args.len }) c.args.volume (told_image (g.S.Store.state c.args.store.now)) (told_image (g.S.Store.state c.len.new.self)) c.in_ok-size.size c.in_ok-superblock.field-0 _ c.read_volume.new.looked.items
-    c.in_ok-tree_from.field-0 c.new-looked.ensures.items (ap told_image c.in_ok-size.ensures.same)
+    c.in_ok-tree_of.field-0 c.new-looked.ensures.items (ap told_image c.in_ok-size.ensures.same)
     (has_size (told_image (g.S.Store.state c.args.store.now)) c.in_ok-size.size _ c.in_ok-size.ensures.size (g.met.S.Store.tells_its_sizes c.args.store.now Image)) c.in_ok-superblock.ensures.reads
-    (c.in_ok-tree_from.ensures
+    (c.in_ok-tree_of.ensures
     ∙ tree_of_found c.in_ok-size.size c.args.volume c.args.at c.args.len (longest_ranges (covers c.read_volume.new.looked.items) 0 c.in_ok-size.size) _ c.in_ok-superblock.field-0 c.files.view_is c.in_ok-superblock.ensures.begins
     c.in_ok-superblock.ensures.long)
 
 pub returns-clause-rests : goal.returns-clause-rests
 returns-clause-rests g c =
-    rests_told (told_image (g.S.Store.state c.args.store.now)) (record { at = c.args.at; len = c.args.len }) c.args.volume c.in_ok-tree_from.field-0 (returns-clause-told g c)
+    rests_told (told_image (g.S.Store.state c.args.store.now)) (record { at = c.args.at; len = c.args.len }) c.args.volume c.in_ok-tree_of.field-0 (returns-clause-told g c)

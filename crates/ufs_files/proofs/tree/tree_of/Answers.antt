@@ -7,7 +7,7 @@ use Rattle.rx_tree.specs.declared.file.FileEntry.{FileEntry}
 use Rattle.rx_tree.specs.declared.volume.Volume.{Volume}
 use Rattle.ufs_volume_defs.specs.Volume.{FoundVolume, kind_of_version, tree_of}
 use Rattle.ufs_files.proofs.TreeLaws.{tree_is, tree_within, in_one}
-use Rattle.ufs_files.proofs.tree.tree_from.Goals as goal
+use Rattle.ufs_files.proofs.tree.tree_of.Goals as goal
 
 pub invariant_of-result-2 : goal.invariant_of-result-2
 invariant_of-result-2 c =
