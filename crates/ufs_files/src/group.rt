@@ -51,9 +51,9 @@ fn add_name(alloc: Global, groups: &mut Vec<Group>, name: Name) -> Result<(), No
 pub(crate) fn groups_of(alloc: Global, mut names: Vec<Name>) -> Result<Vec<Group>, NoMemory>
     ensures { IfOk result (λ groups. AreGroupsOf names.items groups.items) }
 {
-    names.sort_by_cached_key(|name| name.number)?;
+    names.sort_by_key(|name| name.number)?;
+    let mut groups = Vec::with_capacity(alloc, names.len())?;
     let mut rest = Rest::of(names);
-    let mut groups = Vec::new(alloc);
     while let Some(name) = rest.next() {
         add_name(alloc, &mut groups, name)?;
     }

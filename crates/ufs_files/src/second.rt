@@ -46,14 +46,14 @@ impl Model for Filed {
 }
 
 impl Filed {
-    /// No file.
-    fn none(alloc: Global) -> Filed
-        ensures { result ≡ record { files = []; runs = 0 } }
+    /// No file, and room for so many.
+    fn none(alloc: Global, room: usize) -> Result<Filed, AllocError>
+        ensures { IfOk result (λ filed. filed ≡ record { files = []; runs = 0 }) }
     {
-        Filed {
-            files: Vec::new(alloc),
+        Ok(Filed {
+            files: Vec::with_capacity(alloc, room)?,
             runs: 0,
-        }
+        })
     }
 
     /// One more file: that of a group, with the parts that were found.
@@ -135,8 +135,9 @@ pub(crate) fn read_files<S: Store>(
     ensures same { S.state store.new ≡ S.state store.old }
     ensures counted { IsReadCounted Image result (S.faults store.old) (S.faults store.new) }
 {
-    let mut groups = Rest::of(groups_of(alloc, names)?);
-    let mut filed = Filed::none(alloc);
+    let all = groups_of(alloc, names)?;
+    let mut filed = Filed::none(alloc, all.len())?;
+    let mut groups = Rest::of(all);
     while let Some(group) = groups.next() {
         filed = group_file(alloc, store, sup, volume, filed, group, looked)?;
     }
