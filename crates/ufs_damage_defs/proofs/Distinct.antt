@@ -1,8 +1,8 @@
 -- Lists in which no item stands twice.
-use Rattle.std.specs.Prelude.{◌≡◌, zero, suc, ◌≤◌, List, [], ◌∷◌, ◌++◌, length, map}
+use Rattle.std.specs.Prelude.{◌≡◌, ◌+◌, zero, suc, ◌≤◌, List, [], ◌∷◌, ◌++◌, length, map, refl}
 use Rattle.std.specs.List.{AllPairs, Contains, flat_map}
 use Rattle.std.proofs.Common.{ap, sym, subst, arith, ⊎_elim, length-append}
-use Rattle.std.proofs.lemmas.List.Elements.{All-contains_itself, Contains-append_left, Contains-append_right, Contains-append_cases}
+use Rattle.std.proofs.lemmas.List.Elements.{All-contains, All-contains_itself, All-map, All-weaker, Contains-append_left, Contains-append_right, Contains-append_cases}
 use Rattle.ufs_damage_defs.proofs.NameFacts.{in_none, in_cases, in_head, in_tail}
 
 abbrev pub AreDistinct : {X : Type 0} → List X → Type 0
@@ -44,12 +44,9 @@ in_map {Y = Y} f (first ∷ xs) x has =
     (in_cases first x xs has)
 
 pub of_map : {X Y : Type 0} (f : X → Y) (xs : List X) (y : Y) → Contains (map f xs) y → (x : X) × Contains xs x × (f x ≡ y)
-of_map f [] y has = absurd (in_none y has)
-of_map f (first ∷ xs) y has =
-    ⊎_elim
-    (λ same. (first, in_head first xs, same))
-    (λ behind. let rest = of_map f xs y behind in (rest.0, in_tail first rest.0 xs rest.1, rest.2))
-    (in_cases (f first) y (map f xs) has)
+of_map {X = X} {Y = Y} f xs y has =
+    let P : Y → Type 0 = λ z. (x : X) × Contains xs x × (f x ≡ z) in
+    All-contains P (map f xs) y (All-map P f xs (All-weaker (Contains xs) (λ x. P (f x)) (λ x among. (x, among, refl)) xs (All-contains_itself xs))) has
 
 pub distinct-map : {X Y : Type 0} (f : X → Y) (xs : List X) → ((a b : X) → f a ≡ f b → a ≡ b) → AreDistinct xs → AreDistinct (map f xs)
 distinct-map f [] one distinct = tt
@@ -65,6 +62,10 @@ in_flat_map {X = X} f (first ∷ xs) x y has gives =
     (λ same. let P : X → Type 0 = λ z. Contains (f z) y in Contains-append_left (f first) (flat_map f xs) y (subst P (sym same) gives))
     (λ behind. Contains-append_right (f first) (flat_map f xs) y (in_flat_map f xs x y behind gives))
     (in_cases first x xs has)
+
+-- those of one item more
+pub length_more : {X Y : Type 0} (f : X → List Y) (x : X) (xs : List X) → length (flat_map f (x ∷ xs)) ≡ length (f x) + length (flat_map f xs)
+length_more f x xs = length-append (f x) (flat_map f xs)
 
 pub of_flat_map : {X Y : Type 0} (f : X → List Y) (xs : List X) (y : Y) → Contains (flat_map f xs) y → (x : X) × Contains xs x × Contains (f x) y
 of_flat_map f [] y has = absurd (in_none y has)

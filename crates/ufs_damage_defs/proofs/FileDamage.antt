@@ -2,7 +2,7 @@
 -- does, and their runs are counted.
 use Rattle.std.specs.Prelude.{◌≡◌, ℕ, ◌+◌, ◌<◌, ◌≤◌, None, Result, Ok, Err, List, [], ◌∷◌, length, map, refl}
 use Rattle.std.specs.List.{All, Contains, flat_map}
-use Rattle.std.proofs.Common.{sym, ◌∙◌, subst, arith, ⊎_elim, length-append}
+use Rattle.std.proofs.Common.{sym, ◌∙◌, subst, arith, ⊎_elim}
 use Rattle.std.proofs.lemmas.List.Elements.{All-head, All-tail, All-contains, All-contains_itself}
 use Rattle.image_defs.specs.Ask.{Ask, Done, result_of, ◌>>=◌}
 use Rattle.image_defs.proofs.Looks.{bind_gives, bind_refuses}
@@ -27,26 +27,17 @@ use Rattle.ufs_damage_defs.proofs.StreamStops.{stream_sound}
 use Rattle.ufs_damage_defs.proofs.StreamCounts.{StopsStream, AtPointer, AtRuns, stream_counted, stream_stops}
 use Rattle.ufs_damage_defs.proofs.Runs.{section_runs, inode_runs, number_runs, section_long, part_laid, many_runs, numbers_distinct}
 use Rattle.ufs_damage_defs.proofs.InodeDamage.{IsWrongIn, named_gives, named_is}
-use Rattle.ufs_damage_defs.proofs.NameFacts.{in_none, in_cases, in_head, in_tail, IsKnown}
+use Rattle.ufs_damage_defs.proofs.NameFacts.{IsKnown}
+use Rattle.ufs_damage_defs.proofs.Distinct.{in_map, of_map, length_more}
 use Rattle.ufs_damage_defs.proofs.NameDamage.{IsSomewhere, HasNames}
 
 -- a number of a list of names is that of one of them
 known_of : (number : ℕ) (names : List Named) → Contains (map (λ name. name.number) names) number → IsKnown number names
-known_of number [] has = absurd (in_none number has)
-known_of number (name ∷ names) has =
-    ⊎_elim
-    (λ same. record { name = name; among = in_head name names; is = same })
-    (λ behind. let later = known_of number names behind in record { name = later.name; among = in_tail name later.name names later.among; is = later.is })
-    (in_cases name.number number (map (λ one. one.number) names) has)
+known_of number names has = let found = of_map (λ name. name.number) names number has in record { name = found.0; among = found.1; is = found.2 }
 
 -- and each name's is one
 pub number_among : (name : Named) (names : List Named) → Contains names name → Contains (map (λ one. one.number) names) name.number
-number_among name [] has = absurd (in_none name has)
-number_among name (first ∷ names) has =
-    ⊎_elim
-    (λ same. let P : Named → Type 0 = λ n. Contains (first.number ∷ map (λ one. one.number) names) n.number in subst P same (in_head first.number (map (λ one. one.number) names)))
-    (λ behind. in_tail first.number name.number (map (λ one. one.number) names) (number_among name names behind))
-    (in_cases first name names has)
+number_among name names has = in_map (λ one. one.number) names name has
 
 module _ (image : List ℕ) (sup : Super) (volume : ℕ) (sound : wrong_field sup ≡ None) where
   pointers : HasPointers sup
@@ -92,8 +83,7 @@ module _ (image : List ℕ) (sup : Super) (volume : ℕ) (sound : wrong_field su
       let count = counted.0 in
       let sum = state.sum in
       let long = section_long image sup number section in
-      let all : length (flat_map (section_runs image sup number) (section ∷ left)) ≡ length (section_runs image sup number section) + length (flat_map (section_runs image sup number) left) =
-      length-append (section_runs image sup number section) (flat_map (section_runs image sup number) left) in
+      let all = length_more (section_runs image sup number) section left in
       let P : Parted → Type 0 = λ p. AtSections number inode total left p in
       subst P (same_value {E = Refusal} (with_part parted section laid.0) after laid.2)
       (record { among = All-tail (Contains (sections_of sup inode)) section left state.among; sum = omega (arith, sum, long, all, count); few = counted.1 })
@@ -128,8 +118,7 @@ module _ (image : List ℕ) (sup : Super) (volume : ℕ) (sound : wrong_field su
       wrong section left parted state e (AtRuns many) =
           let sum = state.sum in
           let long = section_long image sup number section in
-          let all : length (flat_map (section_runs image sup number) (section ∷ left)) ≡ length (section_runs image sup number section) + length (flat_map (section_runs image sup number) left) =
-          length-append (section_runs image sup number section) (flat_map (section_runs image sup number) left) in
+          let all = length_more (section_runs image sup number) section left in
           over (omega (arith, many, sum, long, all))
 
   -- no pointer of a part that was read leads out
@@ -178,7 +167,7 @@ module _ (image : List ℕ) (sup : Super) (volume : ℕ) (sound : wrong_field su
       let counted = parts_counted number read.0 filed.runs parted.0 read.1 state.few parted.1 in
       let count : parted.0.runs ≡ filed.runs + length (number_runs image sup number) = subst R (sym (inode_read image sup number read.0 read.1).is) counted.0 in
       let sum = state.sum in
-      let all : length (flat_map (number_runs image sup) (number ∷ left)) ≡ length (number_runs image sup number) + length (flat_map (number_runs image sup) left) = length-append (number_runs image sup number) (flat_map (number_runs image sup) left) in
+      let all = length_more (number_runs image sup) number left in
       let P : Filed → Type 0 = λ f. AtNumbers numbers total left f in
       subst P (same_value {E = Refusal} (with_file sup volume names filed number read.0 parted.0) after parted.2)
       (record { among = All-tail (Contains numbers) number left state.among; sum = omega (arith, sum, all, count); few = counted.1 })
@@ -205,7 +194,7 @@ module _ (image : List ℕ) (sup : Super) (volume : ℕ) (sound : wrong_field su
       let found = file_number walk names number (All-head (Contains numbers) number stops.rest stops.holds.among) in
       let rest : Inode → Ask Refusal Filed = λ inode. inode_parts sup filed.runs inode >>= (λ parted. Done (with_file sup volume walk.names filed number inode parted)) in
       let sum = stops.holds.sum in
-      let all : length (flat_map (number_runs image sup) (number ∷ stops.rest)) ≡ length (number_runs image sup number) + length (flat_map (number_runs image sup) stops.rest) = length-append (number_runs image sup number) (flat_map (number_runs image sup) stops.rest) in
+      let all = length_more (number_runs image sup) number stops.rest in
       ⊎_elim
       (λ unread. absurd (not_both found.0 e (result_of image (inode_at sup number)) found.1.read unread))
       (λ read.

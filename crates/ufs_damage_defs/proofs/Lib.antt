@@ -11,6 +11,7 @@ pub mod NameFacts
 pub mod Distinct
 pub mod PieceStarts
 pub mod Visits
+mod RunRows
 pub mod NameSteps
 pub mod Contents
 pub mod Runs

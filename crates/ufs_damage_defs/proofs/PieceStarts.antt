@@ -4,7 +4,7 @@ use Rattle.std.specs.List.{All, Contains, filter}
 use Rattle.std.proofs.Common.{ap, sym, ◌∙◌, subst, arith, ⊎_elim, length-append}
 use Rattle.std.proofs.lemmas.Bool.{cases_eq}
 use Rattle.std.proofs.lemmas.Bool.Decides.{Decides-eqb}
-use Rattle.std.proofs.lemmas.List.Elements.{All-head, All-tail}
+use Rattle.std.proofs.lemmas.List.Elements.{All-head, All-tail, All-contains, All-contains_itself, All-filter, filter-append, filter_passes}
 use Rattle.rx_ranges.specs.declared.pieces.Piece.{Piece}
 use Rattle.rx_ranges.specs.declared.pieces.PieceKind.{PieceKind}
 use Rattle.rx_ranges.specs.declared.pieces.PieceKind.TheVariants.{Disk, Zero}
@@ -52,16 +52,10 @@ numbers_split (suc count) more from =
 -- ---- those of a list that pass a test
 
 pub of_filter : {X : Type 0} (test : X → Bool) (xs : List X) (x : X) → Contains (filter test xs) x → Contains xs x × (test x ≡ true)
-of_filter test [] x has = absurd (in_none x has)
-of_filter {X = X} test (first ∷ xs) x has = either (test first) refl (of_filter test xs x) has
-  where
-    either : (is : Bool) → test first ≡ is → (Contains (filter test xs) x → Contains xs x × (test x ≡ true)) → Contains (if is then first ∷ filter test xs else filter test xs) x → Contains (first ∷ xs) x × (test x ≡ true)
-    either true is rest has =
-        ⊎_elim
-        (λ same. let P : X → Type 0 = λ y. Contains (first ∷ xs) y × (test y ≡ true) in subst P same (in_head first xs, is))
-        (λ behind. let both = rest behind in (in_tail first x xs both.0, both.1))
-        (in_cases first x (filter test xs) has)
-    either false is rest has = let both = rest has in (in_tail first x xs both.0, both.1)
+of_filter test xs x has = (
+  All-contains (Contains xs) (filter test xs) x (All-filter test (Contains xs) xs (All-contains_itself xs)) has,
+  All-contains (λ y. test y ≡ true) (filter test xs) x (filter_passes test xs) has,
+)
 
 pub distinct-filter : {X : Type 0} (test : X → Bool) (xs : List X) → AreDistinct xs → AreDistinct (filter test xs)
 distinct-filter test [] distinct = tt
@@ -69,15 +63,6 @@ distinct-filter test (x ∷ xs) distinct = either (test x) (distinct-filter test
   where
     either : (is : Bool) → AreDistinct (filter test xs) → AreDistinct (if is then x ∷ filter test xs else filter test xs)
     either true rest = ((λ has. distinct.0 (of_filter test xs x has).0), rest)
-    either false rest = rest
-
-filter-split : {X : Type 0} (test : X → Bool) (xs ys : List X) → filter test (xs ++ ys) ≡ filter test xs ++ filter test ys
-filter-split test [] ys = refl
-filter-split test (x ∷ xs) ys = either (test x) (filter-split test xs ys)
-  where
-    either : (is : Bool) → filter test (xs ++ ys) ≡ filter test xs ++ filter test ys
-        → (if is then x ∷ filter test (xs ++ ys) else filter test (xs ++ ys)) ≡ (if is then x ∷ filter test xs else filter test xs) ++ filter test ys
-    either true rest = ap (λ list. x ∷ list) rest
     either false rest = rest
 
 filter_first : {X : Type 0} (test : X → Bool) (x : X) (xs : List X) → test x ≡ true → filter test (x ∷ xs) ≡ x ∷ filter test xs
@@ -186,7 +171,7 @@ count_from place (piece ∷ pieces) from size count total covered placed begins 
     let rest : ℕ = count - piece.len in
     let whole : count ≡ piece.len + rest = omega (arith, within, total) in
     let split : beginnings place from count ≡ beginnings place from piece.len ++ beginnings place (from + piece.len) rest =
-    ap (λ n. beginnings place from n) whole ∙ ap (filter (begins_at place)) (numbers_split piece.len rest from) ∙ filter-split (begins_at place) (numbers_from from piece.len) (numbers_from (from + piece.len) rest) in
+    ap (λ n. beginnings place from n) whole ∙ ap (filter (begins_at place)) (numbers_split piece.len rest from) ∙ filter-append (begins_at place) (numbers_from from piece.len) (numbers_from (from + piece.len) rest) in
     let one = one_begins place piece here from (piece.len - 1) first.begins (omega (arith, some)) (begins (omega (arith, within, some))) in
     ap length split ∙ ap (λ list. length (list ++ beginnings place (from + piece.len) rest)) one
     ∙ ap suc
@@ -202,6 +187,6 @@ pub more_beginnings : (place : ℕ → Option ℕ) (end size : ℕ) → end ≤ 
 more_beginnings place end size before =
     let whole : end + (size - end) ≡ size = omega (arith, before) in
     let split : beginnings place 0 size ≡ beginnings place 0 end ++ beginnings place (0 + end) (size - end) =
-    ap (λ n. beginnings place 0 n) (sym whole) ∙ ap (filter (begins_at place)) (numbers_split end (size - end) 0) ∙ filter-split (begins_at place) (numbers_from 0 end) (numbers_from (0 + end) (size - end)) in
+    ap (λ n. beginnings place 0 n) (sym whole) ∙ ap (filter (begins_at place)) (numbers_split end (size - end) 0) ∙ filter-append (begins_at place) (numbers_from 0 end) (numbers_from (0 + end) (size - end)) in
     let long = ap length split in
     omega (arith, long, length-append (beginnings place 0 end) (beginnings place (0 + end) (size - end)))

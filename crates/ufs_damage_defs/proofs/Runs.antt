@@ -1,7 +1,7 @@
 -- The runs of the parts of inodes, as one list.
 use Rattle.std.specs.Prelude.{◌≡◌, ◌⊎◌, ℕ, ◌+◌, ◌<◌, Bool, true, false, ◌==◌, None, Ok, if◌then◌else◌, List, [], ◌∷◌, ◌++◌, length, map, codes, refl}
 use Rattle.std.specs.List.{Contains, flat_map}
-use Rattle.std.proofs.Common.{ap, sym, ◌∙◌, subst, inl, inr, arith, ⊎_elim, length-append}
+use Rattle.std.proofs.Common.{ap, sym, ◌∙◌, subst, inl, inr, arith, ⊎_elim}
 use Rattle.std.proofs.lemmas.List.{length-map}
 use Rattle.std.proofs.lemmas.List.Elements.{All-contains_itself, All-weaker, Contains-append_cases}
 use Rattle.std.proofs.lemmas.List.Kept.{AllPairs-from_increasing}
@@ -27,7 +27,7 @@ use Rattle.ufs_volume_defs.specs.Files.{Section, kind_of, content_sections, exte
 use Rattle.ufs_damage_defs.specs.StreamDamage.{Start}
 use Rattle.ufs_damage_defs.specs.Damage.{Run, IsRun, HasSoundInode, IsOverIn, ManyRuns}
 use Rattle.ufs_damage_defs.proofs.NameFacts.{in_none, in_cases}
-use Rattle.ufs_damage_defs.proofs.Distinct.{AreDistinct, distinct_of, apart_of, distinct-append, in_map, of_map, distinct-map, in_flat_map, of_flat_map, distinct-flat_map}
+use Rattle.ufs_damage_defs.proofs.Distinct.{AreDistinct, distinct_of, apart_of, distinct-append, in_map, of_map, distinct-map, in_flat_map, of_flat_map, length_more, distinct-flat_map}
 use Rattle.ufs_damage_defs.proofs.Visits.{stream_starts, distinct_starts, starts_begin, starts_found}
 use Rattle.ufs_damage_defs.proofs.StreamMaps.{HasShape}
 use Rattle.ufs_damage_defs.proofs.Contents.{content_part, content_section}
@@ -189,7 +189,7 @@ module _ (image : List ℕ) (sup : Super) where
   walked_more walked runs number inode are fresh has is =
       let P : Inode → Type 0 = λ i. length (directory_runs number) ≡ length (stream_starts image sup (content_stream sup i)) in
       let same : length (directory_runs number) ≡ length (stream_starts image sup (content_stream sup inode)) = subst P has.has.is (section_long number (content_part sup (stored_inode image sup number))) in
-      let all : length (flat_map directory_runs (number ∷ walked)) ≡ length (directory_runs number) + length (flat_map directory_runs walked) = length-append (directory_runs number) (flat_map directory_runs walked) in
+      let all = length_more directory_runs number walked in
       let count = are.count in
       record {
         count = omega (arith, same, all, count);
