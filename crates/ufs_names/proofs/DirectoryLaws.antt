@@ -5,14 +5,12 @@ use Rattle.std.proofs.lemmas.Bool.Decides.{nat_tests}
 use Rattle.range_defs.specs.declared.Range.{Range}
 use Rattle.range_defs.specs.declared.TheConstants.{LONGEST_IMAGE}
 use Rattle.rx_ranges.specs.declared.pieces.Piece.{Piece}
-use Rattle.image_defs.specs.Ask.{Ask, given, ◌>>=◌}
+use Rattle.image_defs.specs.Ask.{Ask, ◌>>=◌}
 use Rattle.image_reads.specs.Steps.{IsCome, ReadsAs}
-use Rattle.image_defs.specs.Through.{through}
 use Rattle.image_reads.proofs.Steps.{begins, comes_past, comes_value, comes_fault, comes_rest, comes_stop, ends_with}
 use Rattle.fault_defs.specs.declared.Refusal.{Refusal}
 use Rattle.fault_defs.specs.declared.Refusal.TheVariants as refusal
 use Rattle.fault_defs.specs.declared.Sort.TheVariants.{DirSize}
-use Rattle.rx_store.specs.Answers.{Answers}
 use Rattle.rx_store.specs.declared.read_fault.ReadFault.{ReadFault}
 use Rattle.rx_store.specs.declared.read_fault.ReadFault.TheVariants.{Damaged}
 use Rattle.ufs_inode_defs.specs.Inode.{size_place}
@@ -20,9 +18,8 @@ use Rattle.ufs_inode_defs.specs.Stream.{content_stream}
 use Rattle.ufs_inode_defs.specs.Blocks.{Laid, runs_of, stream_blocks}
 use Rattle.ufs_inode_defs.specs.declared.superblock.Super.{Super}
 use Rattle.ufs_inode_defs.specs.declared.inode.Inode.{Inode}
-use Rattle.ufs_volume_defs.specs.Names.{Named, Walk, Block, block_names, directory_blocks, directory_names, with_runs}
-use Rattle.ufs_names.specs.Walked.{IsNamed}
-use Rattle.ufs_names.proofs.BlockLaws.{given_reads}
+use Rattle.ufs_volume_defs.specs.Names.{Named, Walk, directory_names, with_runs}
+use Rattle.ufs_names.specs.Walked.{IsNamed, blocks_names}
 use Rattle.ufs_names.proofs.FoundLaws.{inode_inside}
 
 -- the inode of a name stands in the longest image
@@ -32,15 +29,14 @@ named_stands sup name inode named near same =
     omega (arith, inside, near, named.inode.place, ap (λ one. one.at) same)
 
 module _ (told : Option (List ℕ)) (sup : Super) (walk : Walk) (directory : Named) (before : List Range) where
-  -- the names of its blocks, where these were found
-  blocks_left : Laid → List Block → Ask Refusal Walk
-  blocks_left laid blocks = through (block_names sup directory) (with_runs walk (runs_of laid)) blocks
+  -- the names of its blocks, which were found
+  abbrev blocks_left : Laid → Ask Refusal Walk
+  blocks_left laid = blocks_names sup directory (with_runs walk (runs_of laid)) laid.pieces
 
   -- the size is whole, and the blocks are left
   comes_whole : directory.inode.size % 512 ≡ 0
-      → IsCome told (directory_names sup walk directory) before
-      (stream_blocks sup (content_stream sup directory.inode) walk.runs >>= (λ laid. given (directory_blocks sup directory.inode laid.pieces) >>= (λ blocks. blocks_left laid blocks))) before
-  unfolding directory_names blocks_left
+      → IsCome told (directory_names sup walk directory) before (stream_blocks sup (content_stream sup directory.inode) walk.runs >>= (λ laid. blocks_left laid)) before
+  unfolding directory_names
   comes_whole whole =
       let is : (directory.inode.size % 512 == 0) ≡ true = grind (arith, nat_tests) in
       comes_past told (directory_names sup walk directory) before (directory.inode.size % 512 == 0) (refusal.Damaged DirSize (size_place sup directory.inode)) _ before true is
@@ -77,36 +73,15 @@ module _ (told : Option (List ℕ)) (sup : Super) (walk : Walk) (directory : Nam
     laid_stops looked result fault is passed read =
         ends_with told (directory_names sup walk directory) before looked result fault is passed
         (comes_fault told (directory_names sup walk directory) before told (stream_blocks sup (content_stream sup directory.inode) walk.runs)
-        (λ laid. given (directory_blocks sup directory.inode laid.pieces) >>= (λ blocks. blocks_left laid blocks)) before refl (comes_whole whole_size) fault looked looked (laid_read looked (Err fault) read))
+        (λ laid. blocks_left laid) before refl (comes_whole whole_size) fault looked looked (laid_read looked (Err fault) read))
 
-    module _ (looked : List Range) (laid : Laid) (pieces : List Piece) (cut : pieces ≡ laid.pieces)
-        (read : let found : Result Laid ReadFault = Ok laid in ReadsAs told (stream_blocks sup (content_stream sup inode) runs) before looked found) where
-      comes_laid : IsCome told (directory_names sup walk directory) before (given (directory_blocks sup directory.inode laid.pieces) >>= (λ blocks. blocks_left laid blocks)) looked
-      comes_laid =
-          comes_value told (directory_names sup walk directory) before told (stream_blocks sup (content_stream sup directory.inode) walk.runs)
-          (λ laid. given (directory_blocks sup directory.inode laid.pieces) >>= (λ blocks. blocks_left laid blocks)) before refl (comes_whole whole_size) laid looked (laid_read looked (Ok laid) read)
-
-      said : (result : Result (List Block) ReadFault) → Answers result (directory_blocks sup inode pieces) → ReadsAs told (given (directory_blocks sup directory.inode laid.pieces)) looked looked result
-      said result says =
-          let P : Inode → Type 0 = λ one. Answers result (directory_blocks sup one pieces) in
-          let Q : List Piece → Type 0 = λ list. Answers result (directory_blocks sup directory.inode list) in
-          given_reads told looked (directory_blocks sup directory.inode laid.pieces) result (subst Q cut (subst P same says))
-
-      -- a block is a hole
-      pub blocks_stop : (result : Result Walk ReadFault) (fault : ReadFault) → IsErr result → IsErrAnd result (λ other. other ≡ fault)
-          → (let failed : Result (List Block) ReadFault = Err fault in Answers failed (directory_blocks sup inode pieces)) → ReadsAs told (directory_names sup walk directory) before looked result
-      blocks_stop result fault is passed says =
-          ends_with told (directory_names sup walk directory) before looked result fault is passed
-          (comes_fault told (directory_names sup walk directory) before told (given (directory_blocks sup directory.inode laid.pieces)) (λ blocks. blocks_left laid blocks) looked refl comes_laid fault looked looked (said (Err fault) says))
-
-      -- the names of the blocks follow
-      pub blocks_go : (later : Option (List ℕ)) (blocks listed : List Block) (after : Walk) (last : List Range) (result : Result Walk ReadFault) → later ≡ told → listed ≡ blocks → after ≡ with_runs walk (runs_of laid)
-          → (let found : Result (List Block) ReadFault = Ok blocks in Answers found (directory_blocks sup inode pieces))
-          → ReadsAs later (through (block_names sup directory) after listed) looked last result → ReadsAs told (directory_names sup walk directory) before last result
-      unfolding blocks_left
-      blocks_go later blocks listed after last result then all is says rest =
-          let P : List Block → Type 0 = λ list. ReadsAs later (through (block_names sup directory) after list) looked last result in
-          let Q : Walk → Type 0 = λ one. ReadsAs later (through (block_names sup directory) one blocks) looked last result in
-          comes_rest told (directory_names sup walk directory) before later (blocks_left laid blocks) looked last result then
-          (comes_value told (directory_names sup walk directory) before told (given (directory_blocks sup directory.inode laid.pieces)) (λ blocks. blocks_left laid blocks) looked refl comes_laid blocks looked (said (Ok blocks) says))
-          (subst Q is (subst P all rest))
+    -- the names of the blocks follow
+    pub blocks_go : (looked : List Range) (laid : Laid) (pieces : List Piece) (later : Option (List ℕ)) (after : Walk) (last : List Range) (result : Result Walk ReadFault) → pieces ≡ laid.pieces → later ≡ told → after ≡ with_runs walk (runs_of laid)
+        → (let found : Result Laid ReadFault = Ok laid in ReadsAs told (stream_blocks sup (content_stream sup inode) runs) before looked found)
+        → ReadsAs later (blocks_names sup directory after pieces) looked last result → ReadsAs told (directory_names sup walk directory) before last result
+    blocks_go looked laid pieces later after last result cut then is read rest =
+        let P : List Piece → Type 0 = λ list. ReadsAs later (blocks_names sup directory after list) looked last result in
+        let Q : Walk → Type 0 = λ one. ReadsAs later (blocks_names sup directory one laid.pieces) looked last result in
+        comes_rest told (directory_names sup walk directory) before later (blocks_left laid) looked last result then
+        (comes_value told (directory_names sup walk directory) before told (stream_blocks sup (content_stream sup directory.inode) walk.runs) (λ laid. blocks_left laid) before refl (comes_whole whole_size) laid looked
+        (laid_read looked (Ok laid) read)) (subst Q is (subst P cut rest))

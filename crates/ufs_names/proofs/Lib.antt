@@ -5,6 +5,7 @@ pub mod FoundLaws
 pub mod BlockLaws
 pub mod BlockNames
 pub mod PlaceLaws
+pub mod BlocksLeft
 pub mod DirectoryLaws
 pub mod LevelLaws
 pub mod RootLaws

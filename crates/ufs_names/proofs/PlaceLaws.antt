@@ -1,16 +1,15 @@
 -- The blocks of a directory, one after the other, and the pieces that are passed.
-use Rattle.std.specs.Prelude.{◌≡◌, ℕ, suc, ◌+◌, ◌-◌, ◌*◌, ◌<◌, ◌≤◌, Some, None, Result, Ok, Err, List, [], ◌∷◌, ◌++◌, length, drop, get_or, refl}
-use Rattle.std.proofs.Common.{arith, ap, sym, ◌∙◌, append_assoc, append-nil, drop-cons}
-use Rattle.std.proofs.lemmas.Bool.{lt-ltb, le-ltb}
+use Rattle.std.specs.Prelude.{◌≡◌, ℕ, suc, ◌+◌, ◌-◌, ◌*◌, ◌<◌, ◌≤◌, Result, Ok, Err, IsErr, IsErrAnd, List, [], ◌∷◌, refl}
+use Rattle.std.proofs.Common.{arith, ap, sym, subst, ◌∙◌}
 use Rattle.image_defs.specs.Runs.{with_value, in_front_of, each_result}
 use Rattle.rx_ranges.specs.declared.pieces.Piece.{Piece}
-use Rattle.piece_defs.specs.Places.{place_in, place_through}
+use Rattle.piece_defs.specs.Places.{place_through}
 use Rattle.fault_defs.specs.declared.Refusal.{Refusal}
-use Rattle.fault_defs.specs.declared.Refusal.TheVariants.{Damaged}
-use Rattle.fault_defs.specs.declared.Sort.TheVariants.{DirSize}
+use Rattle.rx_store.specs.Answers.{Answers}
+use Rattle.rx_store.specs.declared.read_fault.ReadFault.{ReadFault}
+use Rattle.rx_store.specs.declared.read_fault.ReadFault.TheVariants.{Device, NoMemory, NotThis, Damaged, Unsupported, Limit}
 use Rattle.ufs_inode_defs.specs.Numbers.{numbers_from}
 use Rattle.ufs_inode_defs.specs.Superblock.{block_size}
-use Rattle.ufs_inode_defs.specs.Inode.{size_place}
 use Rattle.ufs_inode_defs.specs.Stream.{block_count}
 use Rattle.ufs_inode_defs.specs.declared.superblock.Super.{Super}
 use Rattle.ufs_inode_defs.specs.declared.inode.Inode.{Inode}
@@ -25,45 +24,19 @@ passed_none pieces byte = record { same = λ later from. refl }
 pub passed_later : (pieces : List Piece) (passed byte later : ℕ) → byte ≤ later → HasPassed pieces passed byte → HasPassed pieces passed later
 passed_later pieces passed byte later from has = record { same = λ last more. has.same last (omega arith) }
 
-through_behind : (piece : Piece) (rest : List Piece) (later : ℕ) → piece.from + piece.len ≤ later → place_through (piece ∷ rest) later ≡ place_through rest later
-through_behind piece rest later past = rw (le-ltb later (piece.from + piece.len) past) refl
-
-through_in : (piece : Piece) (rest : List Piece) (byte : ℕ) → byte < piece.from + piece.len → place_through (piece ∷ rest) byte ≡ place_in piece byte
-through_in piece rest byte inside = rw (lt-ltb byte (piece.from + piece.len) inside) refl
-
-pub passed_more : (pieces : List Piece) (passed byte : ℕ) (piece : Piece) → HasPassed pieces passed byte → passed < length pieces → piece ≡ get_or pieces passed piece → piece.from + piece.len ≤ byte
-    → HasPassed pieces (passed + 1) byte
-passed_more pieces passed byte piece has inside is past = record {
-  same = λ later from.
-      let one_more : passed + 1 ≡ suc passed = omega arith in
-      ap (λ n. place_through (drop n pieces) later) one_more
-      ∙ sym (through_behind piece (drop (suc passed) pieces) later (omega arith))
-      ∙ ap (λ one. place_through (one ∷ drop (suc passed) pieces) later) is
-      ∙ ap (λ list. place_through list later) (sym (drop-cons pieces passed piece inside))
-      ∙ has.same later from;
-}
-
 -- ---- blocks
 
--- where a block of the directory stands
-abbrev block_of : Super → Inode → List Piece → ℕ → Result Block Refusal
-block_of sup inode pieces index = placed_block sup inode index (place_through pieces (index * block_size sup))
+-- a block of the directory
+abbrev pub block_at : Super → Inode → List Piece → ℕ → Result Block Refusal
+block_at sup inode pieces index = placed_block sup inode index (place_through pieces (index * block_size sup))
 
--- the blocks that were found, and those from a number on, are all
-pub record AreFound (sup : Super) (inode : Inode) (pieces : List Piece) (blocks : List Block) (index : ℕ) : Type 0 where
-  pub whole : directory_blocks sup inode pieces ≡ with_value (λ more. blocks ++ more) (each_result (block_of sup inode pieces) (numbers_from index (block_count sup inode.size - index)))
+-- the blocks from a number on
+abbrev pub blocks_from : Super → Inode → List Piece → ℕ → Result (List Block) Refusal
+blocks_from sup inode pieces index = each_result (block_at sup inode pieces) (numbers_from index (block_count sup inode.size - index))
 
-with_none : (rest : Result (List Block) Refusal) → rest ≡ with_value (λ more. [] ++ more) rest
-with_none (Ok blocks) = refl
-with_none (Err e) = refl
-
-pub found_none : (sup : Super) (inode : Inode) (pieces : List Piece) → AreFound sup inode pieces [] 0
-unfolding directory_blocks
-found_none sup inode pieces = record {
-  whole =
-      let all : block_count sup inode.size ≡ block_count sup inode.size - 0 = omega arith in
-      ap (λ count. each_result (block_of sup inode pieces) (numbers_from 0 count)) all ∙ with_none (each_result (block_of sup inode pieces) (numbers_from 0 (block_count sup inode.size - 0)));
-}
+-- whether there is a value, or why there is none
+abbrev pub tested : {X : Type 0} → Result X Refusal → Result (Unit {0}) Refusal
+tested result = with_value (λ x. tt) result
 
 -- the next number is in front of the others
 next_number : (index count : ℕ) → index < count → numbers_from index (count - index) ≡ index ∷ numbers_from (index + 1) (count - (index + 1))
@@ -72,34 +45,65 @@ next_number index count inside =
     let one : suc index ≡ index + 1 = omega arith in
     ap (numbers_from index) some ∙ ap (λ n. index ∷ numbers_from n (count - (index + 1))) one
 
-with_front : (blocks : List Block) (block : Block) (rest : Result (List Block) Refusal) → with_value (λ more. blocks ++ more) (in_front_of (Ok block) rest) ≡ with_value (λ more. (blocks ++ block ∷ []) ++ more) rest
-with_front blocks block (Ok more) = ap Ok (sym (append_assoc blocks (block ∷ []) more))
-with_front blocks block (Err e) = refl
+-- each block in front of a number has a place
+pub record AreTested (sup : Super) (inode : Inode) (pieces : List Piece) (index : ℕ) : Type 0 where
+  pub same : tested (directory_blocks sup inode pieces) ≡ tested (blocks_from sup inode pieces index)
 
-pub found_more : (sup : Super) (inode : Inode) (pieces : List Piece) (blocks more : List Block) (index at : ℕ) (block : Block) → AreFound sup inode pieces blocks index → index < block_count sup inode.size
-    → place_through pieces (index * block_size sup) ≡ Some at → block ≡ record { index = index; at = at } → more ≡ blocks ++ block ∷ [] → AreFound sup inode pieces more (index + 1)
-found_more sup inode pieces blocks more index at block found inside place is pushed = record {
-  whole =
-      let rest = each_result (block_of sup inode pieces) (numbers_from (index + 1) (block_count sup inode.size - (index + 1))) in
-      found.whole
-      ∙ ap (λ numbers. with_value (λ others. blocks ++ others) (each_result (block_of sup inode pieces) numbers)) (next_number index (block_count sup inode.size) inside)
-      ∙ ap (λ one. with_value (λ others. blocks ++ others) (in_front_of (placed_block sup inode index one) rest)) place
-      ∙ ap (λ one. with_value (λ others. blocks ++ others) (in_front_of (Ok one) rest)) (sym is)
-      ∙ with_front blocks block rest
-      ∙ ap (λ list. with_value (λ others. list ++ others) rest) (sym pushed);
-}
+pub tested_front : (block : Block) (rest : Result (List Block) Refusal) → tested (in_front_of (Ok block) rest) ≡ tested rest
+tested_front block (Ok blocks) = refl
+tested_front block (Err e) = refl
 
-pub found_hole : (sup : Super) (inode : Inode) (pieces : List Piece) (blocks : List Block) (index : ℕ) → AreFound sup inode pieces blocks index → index < block_count sup inode.size
-    → place_through pieces (index * block_size sup) ≡ None → directory_blocks sup inode pieces ≡ Err (Damaged DirSize (size_place sup inode))
-found_hole sup inode pieces blocks index found inside place =
-    let rest = each_result (block_of sup inode pieces) (numbers_from (index + 1) (block_count sup inode.size - (index + 1))) in
-    found.whole
-    ∙ ap (λ numbers. with_value (λ others. blocks ++ others) (each_result (block_of sup inode pieces) numbers)) (next_number index (block_count sup inode.size) inside)
-    ∙ ap (λ one. with_value (λ others. blocks ++ others) (in_front_of (placed_block sup inode index one) rest)) place
+-- a refusal of the first block is one of all
+fault_first : (fault : ReadFault) (first : Result Block Refusal) (rest : Result (List Block) Refusal) → (let one : Result Block ReadFault = Err fault in Answers one first)
+    → (let all : Result (Unit {0}) ReadFault = Err fault in Answers all (tested (in_front_of first rest)))
+fault_first Device first rest says = tt
+fault_first NoMemory first rest says = tt
+fault_first NotThis first rest says = ap (λ one. tested (in_front_of one rest)) says
+fault_first (Damaged sort place) first rest says = ap (λ one. tested (in_front_of one rest)) says
+fault_first (Unsupported what place) first rest says = ap (λ one. tested (in_front_of one rest)) says
+fault_first (Limit bound number) first rest says = ap (λ one. tested (in_front_of one rest)) says
 
-pub found_all : (sup : Super) (inode : Inode) (pieces : List Piece) (blocks : List Block) (index : ℕ) → AreFound sup inode pieces blocks index → block_count sup inode.size ≤ index → directory_blocks sup inode pieces ≡ Ok blocks
-found_all sup inode pieces blocks index found past =
-    let none : block_count sup inode.size - index ≡ 0 = omega arith in
-    found.whole
-    ∙ ap (λ count. with_value (λ others. blocks ++ others) (each_result (block_of sup inode pieces) (numbers_from index count))) none
-    ∙ ap Ok (append-nil blocks)
+module _ (sup : Super) (inode : Inode) (pieces : List Piece) where
+  pub blocks_all : directory_blocks sup inode pieces ≡ blocks_from sup inode pieces 0
+  unfolding directory_blocks
+  blocks_all =
+      let all : block_count sup inode.size ≡ block_count sup inode.size - 0 = omega arith in
+      ap (λ count. each_result (block_at sup inode pieces) (numbers_from 0 count)) all
+
+  pub blocks_next : (index : ℕ) → index < block_count sup inode.size
+      → blocks_from sup inode pieces index ≡ in_front_of (block_at sup inode pieces index) (blocks_from sup inode pieces (index + 1))
+  blocks_next index inside = ap (λ numbers. each_result (block_at sup inode pieces) numbers) (next_number index (block_count sup inode.size) inside)
+
+  pub blocks_end : (index : ℕ) → block_count sup inode.size ≤ index → blocks_from sup inode pieces index ≡ Ok []
+  blocks_end index past =
+      let none : block_count sup inode.size - index ≡ 0 = omega arith in
+      ap (λ count. each_result (block_at sup inode pieces) (numbers_from index count)) none
+
+  pub tested_none : AreTested sup inode pieces 0
+  tested_none = record { same = ap tested blocks_all }
+
+  module _ (index : ℕ) (are : AreTested sup inode pieces index) where
+    pub tested_end : block_count sup inode.size ≤ index → tested (directory_blocks sup inode pieces) ≡ Ok tt
+    tested_end past = are.same ∙ ap tested (blocks_end index past)
+
+    module _ (inside : index < block_count sup inode.size) where
+      pub tested_next : (block : Block) → block_at sup inode pieces index ≡ Ok block → AreTested sup inode pieces (index + 1)
+      tested_next block is = record {
+        same =
+            are.same
+            ∙ ap tested (blocks_next index inside)
+            ∙ ap (λ first. tested (in_front_of first (blocks_from sup inode pieces (index + 1)))) is
+            ∙ tested_front block (blocks_from sup inode pieces (index + 1));
+      }
+
+      -- a block is a hole
+      pub tested_hole : (result : Result (Unit {0}) ReadFault) (fault : ReadFault) → IsErr result → IsErrAnd result (λ other. other ≡ fault)
+          → (let failed : Result Block ReadFault = Err fault in Answers failed (block_at sup inode pieces index))
+          → Answers result (tested (directory_blocks sup inode pieces))
+      tested_hole (Ok done) fault is passed says = absurd cc
+      tested_hole (Err other) fault is passed says =
+          let P : ReadFault → Type 0 = λ one. (let failed : Result (Unit {0}) ReadFault = Err one in Answers failed (tested (directory_blocks sup inode pieces))) in
+          let Q : Result (Unit {0}) Refusal → Type 0 = λ gives. (let failed : Result (Unit {0}) ReadFault = Err fault in Answers failed gives) in
+          subst P (sym passed)
+          (subst Q (sym (are.same ∙ ap tested (blocks_next index inside)))
+          (fault_first fault (block_at sup inode pieces index) (blocks_from sup inode pieces (index + 1)) says))

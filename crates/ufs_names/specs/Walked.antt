@@ -3,7 +3,9 @@ use Rattle.std.specs.Prelude.{◌≡◌, ℕ, ◌+◌, ◌*◌, ◌<◌, ◌≤�
 pub use Rattle.image_reads.specs.Steps.{KeptWithin}
 pub use Rattle.ufs_blocks.specs.UnderWay.{Settles}
 use Rattle.rx_ranges.specs.Path.{IsPath}
-use Rattle.image_defs.specs.Ask.{Done}
+use Rattle.rx_ranges.specs.declared.pieces.Piece.{Piece}
+use Rattle.image_defs.specs.Ask.{Ask, Done, given, ◌>>=◌}
+use Rattle.image_defs.specs.Through.{through}
 use Rattle.fault_defs.specs.declared.Refusal.{Refusal}
 use Rattle.fault_defs.specs.declared.Refusal.TheVariants as refusal
 use Rattle.fault_defs.specs.declared.Bound.TheVariants.{Path}
@@ -13,7 +15,7 @@ use Rattle.ufs_inode_defs.specs.Blocks.{most_runs}
 use Rattle.ufs_inode_defs.specs.Stream.{content_len}
 use Rattle.ufs_inode_defs.specs.declared.superblock.Super.{Super}
 use Rattle.ufs_inode_defs.specs.declared.inode.Inode.{Inode}
-use Rattle.ufs_volume_defs.specs.Names.{Named, Walk, Block, longest_path, most_names, most_path_bytes, path_bytes}
+use Rattle.ufs_volume_defs.specs.Names.{Named, Walk, Block, longest_path, most_names, most_path_bytes, path_bytes, block_names, directory_blocks}
 
 -- a sound inode of a number that the volume has
 pub record IsInodeOf (sup : Super) (number : ℕ) (inode : Inode) : Type 0 where
@@ -45,3 +47,7 @@ limited_path path = if nat_le (length path) longest_path then Ok path else Err (
 -- a name whose path isn't too long
 abbrev pub limited_name : Named → Result Named Refusal
 limited_name name = if nat_le (length name.path) longest_path then Ok name else Err (refusal.Limit Path longest_path)
+
+-- the names that the blocks of a directory with these pieces give, behind those that were found: none of the blocks is a hole
+abbrev pub blocks_names : Super → Named → Walk → List Piece → Ask Refusal Walk
+blocks_names sup directory walk pieces = given (directory_blocks sup directory.inode pieces) >>= through (block_names sup directory) walk

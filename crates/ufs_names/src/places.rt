@@ -1,9 +1,12 @@
 //! Where the blocks of a directory stand.
-ghost use Rattle.std.specs.Prelude.{◌≡◌, ◌+◌, ◌≤◌, ◌<◌, ◌≢◌, All, Err, IfOk, None, length, nat_lt};
+ghost use Rattle.std.specs.Prelude.{◌≡◌, ◌+◌, ◌*◌, ◌^◌, ◌≤◌, ◌<◌, ◌≢◌, Err, IfOk, None, nat_lt};
+ghost use Rattle.image_defs.specs.Runs.{with_value};
 ghost use Rattle.piece_defs.specs.Places as places_spec;
 ghost use Rattle.piece_defs.specs.Places.{AreWithin, IsWithin, place_through};
 ghost use Rattle.range_defs.specs.declared.TheConstants.{LONGEST_IMAGE};
 ghost use Rattle.rx_store.specs.Answers.{Answers};
+ghost use Rattle.ufs_inode_defs.specs.Stream as stream_spec;
+ghost use Rattle.ufs_inode_defs.specs.Superblock as superblock_spec;
 ghost use Rattle.ufs_inode_defs.specs.Superblock.{wrong_field};
 ghost use Rattle.ufs_blocks.specs.Placed.{DoBlocksLieWithin};
 ghost use Rattle.ufs_volume_defs.specs.Names as names_spec;
@@ -12,9 +15,8 @@ ghost use Rattle.ufs_names.specs.Passed.{HasPassed, IsInFront};
 
 use crate::entry::Block;
 use crate::sizes::size_place;
-use rx_ranges::{Items, Piece, PieceKind};
+use rx_ranges::{Piece, PieceKind};
 use rx_store::{ReadFault, Sort};
-use std::alloc::Global;
 use ufs_inode_defs::{Inode, Super};
 use ufs_super::{block_count, block_size};
 
@@ -63,30 +65,46 @@ fn place_behind(pieces: &[Piece], passed: usize, byte: u64) -> Option<u64>
     }
 }
 
-/// The blocks of a directory with these pieces, in order: none of them is a hole.
-pub(crate) fn directory_blocks(
-    alloc: Global,
+/// The block of a directory with these pieces at an index: it is no hole. The pieces that end in front of it are passed.
+pub(crate) fn placed_block(
     sup: &Super,
     inode: &Inode,
     pieces: &[Piece],
-) -> Result<Items<Block>, ReadFault>
+    passed: &mut usize,
+    index: u64,
+) -> Result<Block, ReadFault>
     requires sound { wrong_field sup.now ≡ None }
     requires stands { inode.now.at ≤ LONGEST_IMAGE }
     requires within { AreWithin LONGEST_IMAGE pieces.now }
     requires lie { DoBlocksLieWithin sup.now inode.now.size pieces.now }
-    ensures blocks { Answers result (names_spec.directory_blocks sup.now inode.now pieces.now) }
-    ensures lie { IfOk result (All (LiesIn sup.now inode.now.size)) }
+    requires fits { inode.now.size < 2 ^ 64 }
+    requires begins { index < stream_spec.block_count sup.now inode.now.size }
+    requires passed { HasPassed pieces.now passed.old (index * superblock_spec.block_size sup.now) }
+    ensures placed { Answers result (names_spec.placed_block sup.now inode.now index (place_through pieces.now (index * superblock_spec.block_size sup.now))) }
+    ensures lies { IfOk result (LiesIn sup.now inode.now.size) }
+    ensures passed { HasPassed pieces.now passed.new (index * superblock_spec.block_size sup.now) }
     ensures calm { result ≢ Err ReadFault.Device }
 {
-    let unit = block_size(sup);
-    let mut blocks = Vec::new(alloc);
+    let byte = index * block_size(sup);
+    *passed = passed_by(pieces, *passed, byte);
+    match place_behind(pieces, *passed, byte) {
+        Some(at) => Ok(Block { index, at }),
+        None => Err(ReadFault::Damaged(Sort::DirSize, size_place(sup, inode))),
+    }
+}
+
+/// Whether each block of a directory with these pieces has a place: none of them is a hole.
+pub(crate) fn are_placed(sup: &Super, inode: &Inode, pieces: &[Piece]) -> Result<(), ReadFault>
+    requires sound { wrong_field sup.now ≡ None }
+    requires stands { inode.now.at ≤ LONGEST_IMAGE }
+    requires within { AreWithin LONGEST_IMAGE pieces.now }
+    requires lie { DoBlocksLieWithin sup.now inode.now.size pieces.now }
+    ensures placed { Answers result (with_value (λ blocks. tt) (names_spec.directory_blocks sup.now inode.now pieces.now)) }
+    ensures calm { result ≢ Err ReadFault.Device }
+{
     let mut passed = 0;
     for index in 0..block_count(sup, inode.size) {
-        passed = passed_by(pieces, passed, index * unit);
-        match place_behind(pieces, passed, index * unit) {
-            Some(at) => blocks.push(Block { index, at })?,
-            None => return Err(ReadFault::Damaged(Sort::DirSize, size_place(sup, inode))),
-        }
+        placed_block(sup, inode, pieces, &mut passed, index)?;
     }
-    Ok(Items::from_vec(blocks))
+    Ok(())
 }

@@ -1,21 +1,20 @@
-use Rattle.std.proofs.Common.{◌≡◌, ◌+◌, drop}
+use Rattle.std.proofs.Common.{◌≡◌, ◌+◌, ◌*◌}
 use Rattle.disk_defs.specs.Disk.{told_image}
-use Rattle.image_reads.specs.Steps.{IsCome}
-use Rattle.image_defs.specs.Through.{through}
-use Rattle.ufs_volume_defs.specs.Names.{block_names}
 use Rattle.ufs_inode.specs.Block.{IsBlockOf}
+use Rattle.ufs_inode_defs.specs.Superblock.{block_size}
+use Rattle.ufs_names.specs.Passed.{HasPassed}
 use Rattle.ufs_names.specs.Walked.{IsWalked, KeptWithin}
+use Rattle.ufs_names.proofs.BlocksLeft.{AreLeft}
 use Rattle.ufs_names.proofs.directory.blocks_names.Given as goal
 
 -- the names of the blocks so far were found, and those of the others are left
-abbrev pub invariant-loop-block : goal.invariant-loop-block
-invariant-loop-block g l = record {
+abbrev pub invariant-loop-index : goal.invariant-loop-index
+invariant-loop-index g l = record {
   same : g.S.Store.state l.store ≡ g.S.Store.state l.fn.store;
   calm : g.S.Store.faults l.store ≡ g.S.Store.faults l.fn.store;
   walked : IsWalked l.sup l.walk;
-  come :
-      IsCome (told_image (g.S.Store.state l.fn.store)) (through (block_names l.sup l.directory) l.fn.walk l.blocks) l.fn.seen.looked.items
-      (through (block_names l.sup l.directory) l.walk (drop l.block-index l.blocks)) l.seen.looked.items;
+  left : AreLeft (told_image (g.S.Store.state l.fn.store)) l.sup l.directory l.pieces l.fn.walk l.fn.seen.looked.items l.index l.walk l.seen.looked.items;
+  passed : HasPassed l.pieces l.passed (l.index * block_size l.sup);
   kept : KeptWithin (l.sup.at + l.sup.len) l.fn.seen.looked.items l.seen.looked.items;
   inodes : IsBlockOf (told_image (g.S.Store.state l.store)) l.seen.inodes;
 }
