@@ -1,23 +1,15 @@
 -- A name in a directory has a path.
-use Rattle.std.specs.Prelude.{◌≡◌, ℕ, ◌<◌, ◌≤◌, Bool, true, false, ◌&&◌, All, Ok, List, [], ◌∷◌, ◌++◌, length, refl, if◌then◌else◌}
+use Rattle.std.specs.Prelude.{◌≡◌, ℕ, ◌<◌, ◌≤◌, Bool, true, false, ◌&&◌, All, List, [], ◌∷◌, ◌++◌, length, refl, if◌then◌else◌}
 use Rattle.std.proofs.Common.{arith}
 use Rattle.std.specs.List.{list_all}
-use Rattle.std.proofs.lemmas.Bool.{le-leb}
 use Rattle.std.proofs.lemmas.Bool.Decides.{nat_tests}
 use Rattle.std.proofs.lemmas.List.Elements.{recursion_from_All}
 use Rattle.std.specs.List.{AllByRecursion}
 use Rattle.name_defs.specs.Texts.{IsShownInName, bytes_text}
 use Rattle.name_defs.proofs.ShownLaws.{bytes_text_shows}
-use Rattle.fault_defs.specs.declared.Refusal.TheVariants as refusal
 use Rattle.rx_ranges.specs.Path.{IsPath, begins_with_slash, is_printed}
 use Rattle.rx_tree.specs.Path.{is_root, joined_path}
 use Rattle.ufs_volume_defs.specs.Names.{longest_path}
-use Rattle.ufs_names.specs.Walked.{limited_path}
-
--- ---- the longest path
-
-pub path_fits : (path : List ℕ) → length path ≤ longest_path → limited_path path ≡ Ok path
-path_fits path fits = rw (le-leb (length path) longest_path fits) refl
 
 -- ---- what is printed
 

@@ -1,5 +1,5 @@
 -- The names of a walk, one more at a time.
-use Rattle.std.specs.Prelude.{◌≡◌, ℕ, ◌+◌, ◌<◌, ◌≤◌, true, false, nat_le, Option, None, Some, OnOk, Result, Ok, Err, List, [], ◌∷◌, ◌++◌, length, refl}
+use Rattle.std.specs.Prelude.{◌≡◌, ℕ, ◌+◌, ◌<◌, ◌≤◌, true, false, nat_le, Option, None, Some, OnOk, Result, Ok, Err, List, [], ◌++◌, length, refl}
 use Rattle.std.proofs.Common.{arith, sym, subst, append-nil}
 use Rattle.std.proofs.lemmas.Bool.{le-leb, lt-leb}
 use Rattle.range_defs.specs.declared.Range.{Range}

@@ -1,5 +1,5 @@
 //! The names that the entries of a block give.
-ghost use Rattle.std.specs.Prelude.{◌≡◌, ◌+◌, ◌*◌, ◌%◌, ◌^◌, ◌<◌, ◌≤◌, None, All, IfOk, IfSome, OnOk, length};
+ghost use Rattle.std.specs.Prelude.{◌≡◌, ◌+◌, ◌*◌, ◌%◌, ◌^◌, ◌<◌, ◌≤◌, None, All, IfOk, OnOk};
 ghost use Rattle.disk_defs.specs.Disk.{size_of, told_image};
 ghost use Rattle.disk_defs.specs.declared.Area.TheVariants.{Image};
 ghost use Rattle.image_defs.specs.Through.{through};
@@ -8,7 +8,6 @@ ghost use Rattle.range_defs.specs.declared.TheConstants.{LONGEST_IMAGE};
 ghost use Rattle.rx_ranges.specs.Path.{IsPath};
 ghost use Rattle.rx_store.specs.ReadFaults.{IsReadCounted};
 ghost use Rattle.ufs_inode.specs.Block.{IsBlockOf};
-ghost use Rattle.ufs_inode_defs.specs.Stream as stream_spec;
 ghost use Rattle.ufs_inode_defs.specs.Superblock as superblock_spec;
 ghost use Rattle.ufs_inode_defs.specs.Superblock.{wrong_field};
 ghost use Rattle.ufs_volume_defs.specs.Names as names_spec;

@@ -1,15 +1,17 @@
 //! The names that entries give.
-ghost use Rattle.std.specs.Prelude.{◌≡◌, ◌≢◌, ◌+◌, ◌*◌, ◌^◌, ◌<◌, ◌≤◌, None, Err, IfOk, OnOk};
+ghost use Rattle.std.specs.Prelude.{◌≡◌, ◌≢◌, ◌&&◌, ◌+◌, ◌*◌, ◌^◌, ◌<◌, ◌≤◌, None, Err, IfOk, OnOk};
 ghost use Rattle.disk_defs.specs.Disk.{size_of, told_image};
 ghost use Rattle.disk_defs.specs.declared.Area.TheVariants.{Image};
 ghost use Rattle.image_reads.specs.Steps.{ReadsAs};
 ghost use Rattle.rx_ranges.specs.Path.{IsPath};
 ghost use Rattle.rx_store.specs.ReadFaults.{IsReadCounted};
 ghost use Rattle.ufs_inode.specs.Block.{IsBlockOf};
+ghost use Rattle.ufs_inode_defs.specs.Inode as inode_spec;
 ghost use Rattle.ufs_inode_defs.specs.Superblock as superblock_spec;
 ghost use Rattle.ufs_inode_defs.specs.Superblock.{wrong_field};
 ghost use Rattle.rx_store.specs.Answers.{Answers};
 ghost use Rattle.ufs_volume_defs.specs.Names as names_spec;
+ghost use Rattle.ufs_volume_defs.specs.Names.{is_known};
 ghost use Rattle.ufs_names.specs.Walked.{IsInodeOf, IsNamed, IsWalked, KeptWithin, Settles, limited_name};
 
 use crate::kept::KeptInode;
@@ -76,6 +78,13 @@ fn name_by(
     })
 }
 
+/// Whether an inode of a number is a directory that has a name.
+fn is_known_directory(walk: &Walk, number: u32, inode: &Inode) -> bool
+    ensures { result ≡ (inode_spec.is_directory inode.now && is_known number walk.now.names) }
+{
+    is_directory(inode) && walk.knows(number)
+}
+
 /// The names with that of an inode that an entry names: a directory has no other name.
 fn found_name(
     alloc: Global,
@@ -96,7 +105,7 @@ fn found_name(
     ensures calm { result ≢ Err ReadFault.Device }
 {
     let block = place.block;
-    if is_directory(&inode) && walk.knows(entry.inode) {
+    if is_known_directory(&walk, entry.inode, &inode) {
         return Err(ReadFault::Damaged(Sort::DirTwice, block.at + entry.at as u64));
     }
     let name = name_by(alloc, sup, place, entry, inode)?;

@@ -22,7 +22,7 @@ use rx_store::{Bound, ReadFault, Store};
 use std::alloc::{AllocError, Global};
 use ufs_inode_defs::Super;
 
-/// The most directories on the way from the root to a file, the root's among them.
+/// The most directories on the way from the root to a file, without the root.
 const DEEPEST: u64 = 1_024;
 
 /// Copies of the directories among the names behind a number of them.

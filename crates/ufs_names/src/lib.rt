@@ -4,8 +4,8 @@
 //! other than `.` and `..`. Each name has its path as it is printed, the inode that it is given to, and the entry that gives it;
 //! an inode with no pointer but that to its first block is kept small.
 //! A directory has one name (else Damaged(DirTwice)), its size is a multiple of 512 and it has no hole (else Damaged(DirSize)).
-//! There are limits: 1,000,000 names, 2^30 bytes of all paths, 65,535 bytes of a path, 1,024 directories one in the other. The
-//! ranges at which the walk looks are kept: each inode, the content of each directory, and each block of pointers.
+//! There are limits: 1,000,000 names, 2^30 bytes of all paths, 65,535 bytes of a path, 1,024 directories one in the other below the
+//! root. The ranges at which the walk looks are kept: each inode, the content of each directory, and each block of pointers.
 //!
 //!     let walk = read_names(alloc, &mut store, &sup, &mut looked)?;
 //!     walk.names[0].path      // "/", and behind it "/a", "/dir", .. and then "/dir/b"
