@@ -1,5 +1,7 @@
-//! A plain walk over a UFS1 or UFS2 volume, to measure dfredact against: it reads each block of inodes, each directory and each
-//! block of pointers once, and keeps each file's names and pieces. Nothing is proved of it, and a damaged image stops it anyhow.
+//! A plain walk over a UFS1 or UFS2 volume, to measure dfredact against. It reads each directory once, the blocks of pointers of a
+//! directory twice and of other files once, and keeps each file's names and pieces. Of the inodes it keeps the block that was read
+//! last: it reads each block once where the entries stand in the order of their inodes, and else again at each return to it. Nothing
+//! is proved of it, and a damaged image stops it anyhow.
 //!
 //!     rustc --edition 2021 -O -o /tmp/plain_walk tools/plain_walk.rs && time /tmp/plain_walk IMAGE
 //!

@@ -5,8 +5,8 @@
 
 It makes the small image (tools/small_image.py) in a directory of its own and goes through plan, redact, report, resume, a journal
 of many windows and the refusals that come of files: a journal that is missing, a directory or the image itself under another name.
-Where `strace` is there, it also sees by the system's calls that both files are synced where the order of a redaction says. Its
-last line is `N checks, all hold`, and it ends with status 1 where one doesn't.
+Where `strace` is there, it also sees by the system's calls that both files are synced where the order of a redaction says, and how
+each command opens its files. Its last line is `N checks, all hold`, and it ends with status 1 where one doesn't.
 """
 import os
 import pathlib
@@ -178,6 +178,28 @@ def calls(log):
     return both
 
 
+# how each command opens its files, in this order; `redact` finds no journal, and makes it
+OPENED = {
+    "plan image rules": ["image O_RDONLY", "rules O_RDONLY"],
+    "redact image journal rules": ["image O_RDWR", "journal O_RDWR", "journal O_RDWR|O_CREAT|O_EXCL", "rules O_RDONLY"],
+    "resume image journal": ["image O_RDWR", "journal O_RDWR"],
+    "report journal": ["journal O_RDONLY"],
+}
+
+
+def opened(at):
+    at.image.write_bytes(at.old)
+    at.journal.unlink(missing_ok=True)
+    log = at.directory / "log"
+    for words, wanted in OPENED.items():
+        state = b"planned" if words.startswith("plan") else b"done"
+        trace = ["strace", "-f", "-o", str(log), "-e", "trace=?open,openat"]
+        at.run(f"{words}, traced", *words.split(), code=0, out=b"redaction " + state + b"\n" + LINES, before=trace)
+        calls = re.findall(r'"(image|journal|rules)", ([A-Z_|]+)', log.read_text())
+        found = [name + " " + re.sub(r"\|O_(CLOEXEC|NOCTTY)", "", flags) for name, flags in calls]
+        see(f"{words}: the files are opened so: {found}", found == wanted)
+
+
 def traced(at):
     at.image.write_bytes(at.old)
     at.journal.unlink(missing_ok=True)
@@ -197,6 +219,7 @@ def main():
         for part in (commands, stopped, long_journal, one_file):
             part(at)
         if shutil.which("strace"):
+            opened(at)
             traced(at)
         else:
             print("strace isn't there: the order of the system's calls wasn't seen")
