@@ -1,7 +1,7 @@
 //! Tests of what no clause says: which files the words name, and what a run over real files answers.
 ghost use Rattle.std.specs.Io.{WritesAtMost};
 
-use super::{answer_to, words_of};
+use super::{Use, answer_to, files_of, words_of};
 use redact_cmd::{JournalRefusal, Status};
 use rx_store::{MemSink, StdSink};
 use std::alloc::{AllocError, Global};
@@ -79,14 +79,47 @@ fn word_of(rt: &HostRuntime, word: &str) -> io::Result<String> {
     }
 }
 
-/// What the program answers to these words, with its answer to a file.
-fn status_of(rt: &HostRuntime, words: &[&str], out: &str) -> io::Result<Status> {
+/// The words of a command line.
+fn copied(rt: &HostRuntime, words: &[&str]) -> io::Result<Vec<String>> {
     let mut copied = Vec::new(rt.alloc());
     for word in words {
         copied.push(word_of(rt, word)?)?;
     }
+    Ok(copied)
+}
+
+/// What the program answers to these words, with its answer to a file.
+fn status_of(rt: &HostRuntime, words: &[&str], out: &str) -> io::Result<Status> {
+    let words = copied(rt, words)?;
     let out = File::create(rt, &word_of(rt, out)?)?;
-    Ok(answer_to(rt, &copied, &mut StdSink::new(out)))
+    Ok(answer_to(rt, &words, &mut StdSink::new(out)))
+}
+
+/// How the image and the journal of a command's words are opened.
+const USES: [(&[&str], Option<Use>, Option<Use>); 4] = [
+    (&["plan", "image", "rules"], Some(Use::Read), None),
+    (
+        &["redact", "image", "journal", "rules"],
+        Some(Use::Write),
+        Some(Use::Make),
+    ),
+    (
+        &["resume", "image", "journal"],
+        Some(Use::Write),
+        Some(Use::Write),
+    ),
+    (&["report", "journal"], None, Some(Use::Read)),
+];
+
+#[test]
+fn only_redact_and_resume_open_the_image_for_writing(rt: HostRuntime) -> Result<(), Fail> {
+    for (words, image, journal) in USES {
+        let words = copied(&rt, words)?;
+        let files = files_of(&words);
+        assert!(rt; files.image == image.map(|how| ("image", how)));
+        assert!(rt; files.journal == journal.map(|how| ("journal", how)));
+    }
+    Ok(())
 }
 
 /// Makes the small image and a rule text that fills its file.
