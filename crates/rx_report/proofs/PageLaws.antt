@@ -1,5 +1,5 @@
 -- Laws of texts that go out in pages.
-use Rattle.std.proofs.Common.{◌≡◌, ℕ, ◌+◌, ◌<◌, suc, Option, None, Some, Result, OnOk, List, [], ◌∷◌, ◌++◌, length, take, drop, refl, sym, ap, ◌∙◌, append_assoc, append-nil}
+use Rattle.std.proofs.Common.{◌≡◌, ℕ, ◌+◌, ◌<◌, suc, Option, List, ◌++◌, length, take, drop, sym, ap, ◌∙◌, append_assoc, append-nil}
 use Rattle.std.proofs.lemmas.List.{take_more}
 use Rattle.std.proofs.lemmas.Grind.{flat_map-append}
 use Rattle.std.specs.List.{flat_map, slice_index_or}
@@ -24,12 +24,6 @@ prefix-then {before} {mid} {waiting} {text} {whole} after own more first some is
     took_prefix-within before mid after first.gone (waiting ++ own) more whole first.taken some
     (sym (append_assoc first.gone (waiting ++ own) more) ∙ ap (λ all. all ++ more) (sym (append_assoc first.gone waiting own)
     ∙ ap (λ all. all ++ own) first.whole) ∙ is)
-
--- with what waited the whole text was taken
-pub took-whole : {before mid after : Option (List ℕ)} {waiting text : List ℕ} (own : List ℕ) → (first : TookAllBut before mid waiting text)
-    → first.gone ++ own ≡ text → after ≡ taken_with mid own → after ≡ taken_with before text
-took-whole {before} own first all last =
-    last ∙ ap (λ taken. taken_with taken own) first.taken ∙ taken_with-append before first.gone own ∙ ap (taken_with before) all
 
 -- one line more
 pub line-then : {X : Type 0} {before mid after : Option (List ℕ)} {waiting own left : List ℕ} (line : X → List ℕ) (items : List X) (i : ℕ) (d : X)

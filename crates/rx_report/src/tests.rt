@@ -99,10 +99,7 @@ fn long_path(alloc: Global) -> Result<String, AllocError> {
 #[test]
 fn a_listing_goes_out_in_pages(rt: HostRuntime) -> Result<(), Fail> {
     let alloc = rt.alloc();
-    let mut text = String::from_str(
-        alloc,
-        "redaction planned\nimage 0\nranges 0\nbytes 0\n",
-    )?;
+    let mut text = String::from_str(alloc, "redaction planned\nimage 0\nranges 0\nbytes 0\n")?;
     let mut lines = Vec::new(alloc);
     for _ in 0..1000 {
         text.push_str("FILE 3 /a\n")?;
@@ -119,7 +116,10 @@ fn a_listing_goes_out_in_pages(rt: HostRuntime) -> Result<(), Fail> {
     };
     let sink = MemSink::new(alloc, text.len())?;
     let mut sink = CountingSink { sink, writes: 0 };
-    assert_eq!(rt; write_report(&mut sink, &plan, ReportState::Planned), Ok(()));
+    assert_eq!(rt;
+        write_report(&mut sink, &plan, ReportState::Planned),
+        Ok(())
+    );
     assert_eq!(rt; sink.sink.bytes(), text.as_bytes());
     // two pages, the path by itself, and what is left
     assert_eq!(rt; sink.writes, 4);

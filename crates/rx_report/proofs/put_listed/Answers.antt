@@ -1,7 +1,6 @@
-use Rattle.std.proofs.Common.{◌≡◌, ◌++◌, ◌∷◌, [], ◌∙◌, refl, append_assoc}
+use Rattle.std.proofs.Common.{◌∷◌, [], ◌∙◌, refl, append_assoc}
 use Rattle.std.proofs.lemmas.Result.{on_ok_weaker, on_err_weaker}
 use Rattle.disk_defs.proofs.StreamLaws.{on_err}
-use Rattle.text_defs.specs.Report.{listed_line}
 use Rattle.rx_report.proofs.PageLaws.{took-then, prefix-then}
 use Rattle.rx_report.proofs.put_listed.Goals as goal
 

@@ -17,7 +17,7 @@ took-both before mid after waiting text left mid_is after_is nothing = record {
 
 pub returns-then-text-gt-MAX_PAGE-clause-taken : goal.returns-then-text-gt-MAX_PAGE-clause-taken
 returns-then-text-gt-MAX_PAGE-clause-taken g c = elim c.if-remaining_capacity-text.branch [
-  then-remaining_capacity-text+in_ok-write_all w ↦
+  | then-remaining_capacity-text+in_ok-write_all w ↦
       let before = g.K.Sink.taken c.args.sink.now in
       let mid = g.K.Sink.taken c.if-remaining_capacity-text.sink in
       let mid_is = ap g.K.Sink.taken w.sink-is ∙ w.in_ok-write_all.ensures.taken ∙ ap (taken_with before) (w.as_bytes.ensures.value ∙ w.as_str.ensures.value) in
@@ -29,7 +29,7 @@ returns-then-text-gt-MAX_PAGE-clause-taken g c = elim c.if-remaining_capacity-te
 
 pub returns-then-text-gt-MAX_PAGE-clause-prefix : goal.returns-then-text-gt-MAX_PAGE-clause-prefix
 returns-then-text-gt-MAX_PAGE-clause-prefix g c = elim c.if-remaining_capacity-text.branch [
-  then-remaining_capacity-text+in_ok-write_all w ↦
+  | then-remaining_capacity-text+in_ok-write_all w ↦
       let before = g.K.Sink.taken c.args.sink.now in
       let mid = g.K.Sink.taken c.if-remaining_capacity-text.sink in
       let mid_is = ap g.K.Sink.taken w.sink-is ∙ w.in_ok-write_all.ensures.taken ∙ ap (taken_with before) (w.as_bytes.ensures.value ∙ w.as_str.ensures.value) in
