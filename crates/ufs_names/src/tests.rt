@@ -116,9 +116,9 @@ fn names_come_breadth_first(rt: HostRuntime) -> Result<(), Fail> {
     let last = &walk.names[3];
     assert_eq!(rt; (last.number, last.directory, last.offset), (3, 4, 0));
     assert_eq!(rt; walk.names[2].offset, 36);
-    assert_eq!(rt; looked.len(), 6);
+    assert_eq!(rt; looked.len(), 5);
     assert_eq!(rt;
-        looked[4],
+        looked[3],
         Range {
             at: 20_992,
             len: 512
