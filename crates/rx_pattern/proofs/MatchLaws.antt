@@ -24,10 +24,10 @@ pub plain_matches_itself : (letters text : List ℕ) → Match (map Plain letter
 plain_matches_itself letters text =
     (plain_matches letters text, λ same. subst (Match (map Plain letters)) (sym same) (matches_itself letters))
 
--- a run alone matches everything
-pub run_matches_all : (text : List ℕ) → Match (Star ∷ []) text
+-- a star alone matches everything
+pub star_matches_all : (text : List ℕ) → Match (Star ∷ []) text
 unfolding Match
-run_matches_all text = (text, [], sym (append-nil text), refl)
+star_matches_all text = (text, [], sym (append-nil text), refl)
 
 -- one more character in front
 split_behind : (item : Item) (front back : List Item) (text : List ℕ)
@@ -107,9 +107,9 @@ joined_round (OneOf class ∷ front) back before run behind text whole front_mat
     joined_behind (OneOf class) front back before run behind text whole
     (λ rest middle is matches. joined_round front back middle run behind rest is matches back_matches) front_matches
 
--- a match of items with a run between them splits the text
-pub run_splits : (front back : List Item) (text : List ℕ) → Match (front ++ Star ∷ back) text ↔ IsSplit front back text
-run_splits front back text = (
+-- a match of items with a star between them splits the text
+pub star_splits : (front back : List Item) (text : List ℕ) → Match (front ++ Star ∷ back) text ↔ IsSplit front back text
+star_splits front back text = (
   split_round front back text,
   λ split. joined_round front back split.before split.run split.behind text split.whole split.front_matches split.back_matches,
 )

@@ -354,7 +354,7 @@ negated_reads first others text inner =
     class_reads_as (33 ∷ body) (first ∷ others) text true refl (inside_of-negated (33 ∷ body) body (Some (first ∷ others)) refl refl closed)
     (class_width-negated (33 ∷ body) body (first ∷ others) text refl refl closed refl)
 
--- a `*` between two texts that read is a run between their items
+-- a `*` between two texts that read is a star between their items
 pub star_between : (first last : List ℕ) (front back : List Item) → items_of first ≡ Ok front → items_of last ≡ Ok back
     → items_of (first ++ 42 ∷ last) ≡ Ok (front ++ Star ∷ back)
 star_between first last front back reads back_reads =

@@ -29,7 +29,7 @@ item_takes (OneOf class) c = class_takes class c
 abbrev pub BeginsWith : Item → (List ℕ → Type 0) → List ℕ → Type 0
 BeginsWith item Later text = (c : ℕ) × (rest : List ℕ) × (text ≡ c ∷ rest) × IsTrue (item_takes item c) × Later rest
 
--- the items match the whole text: none the empty one, a run any beginning of it, and another item its first character
+-- the items match the whole text: none the empty one, a star any beginning of it, and another item its first character
 unfoldable pub Match : List Item → List ℕ → Type 0
 Match [] text = text ≡ []
 Match (Star ∷ items) text = (run : List ℕ) × (rest : List ℕ) × (text ≡ run ++ rest) × Match items rest
@@ -37,7 +37,7 @@ Match (Plain plain ∷ items) text = BeginsWith (Plain plain) (Match items) text
 Match (AnyOne ∷ items) text = BeginsWith AnyOne (Match items) text
 Match (OneOf class ∷ items) text = BeginsWith (OneOf class) (Match items) text
 
--- a text is split round a run: its beginning matches the items in front of the run, and its end those behind it
+-- a text is split round what a star takes: its beginning matches the items in front of the star, and its end those behind it
 pub record IsSplit (front back : List Item) (text : List ℕ) : Type 0 where
   pub before : List ℕ
   pub run : List ℕ

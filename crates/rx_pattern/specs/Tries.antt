@@ -11,13 +11,13 @@ first_takes_first [] text = false
 first_takes_first (item ∷ items) [] = false
 first_takes_first (item ∷ items) (c ∷ text) = item_takes item c
 
--- whether the first item is a run
-abbrev pub begins_with_run : List Item → Bool
-begins_with_run [] = false
-begins_with_run (Star ∷ items) = true
-begins_with_run (Plain plain ∷ items) = false
-begins_with_run (AnyOne ∷ items) = false
-begins_with_run (OneOf class ∷ items) = false
+-- whether the first item is a star
+abbrev pub begins_with_star : List Item → Bool
+begins_with_star [] = false
+begins_with_star (Star ∷ items) = true
+begins_with_star (Plain plain ∷ items) = false
+begins_with_star (AnyOne ∷ items) = false
+begins_with_star (OneOf class ∷ items) = false
 
 -- whether items and text have both ended
 abbrev pub nothing_left : List Item → List ℕ → Bool

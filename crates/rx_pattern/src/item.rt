@@ -18,7 +18,7 @@ pub enum Item {
 }
 
 impl Item {
-    /// Whether it stands for one character and takes this one. A run doesn't stand for one character.
+    /// Whether it stands for one character and takes this one. A star doesn't stand for one character.
     pub fn takes(&self, c: char) -> bool
         ensures { result ≡ item_takes self.now c }
     {

@@ -71,14 +71,14 @@ pub fn a_plain_pattern_matches_itself()
 {}
 
 /// The pattern `*` matches everything.
-#[tactic(auto, using(crate::proofs::ReadingLaws::star_alone, crate::proofs::MatchLaws::run_matches_all))]
+#[tactic(auto, using(crate::proofs::ReadingLaws::star_alone, crate::proofs::MatchLaws::star_matches_all))]
 pub fn a_star_matches_everything()
     ensures reads { items_of (42 ∷ []) ≡ Ok (Star ∷ []) }
     ensures matches { (text : List ℕ) → Match (Star ∷ []) text }
 {}
 
 /// A match of two patterns with a `*` between them splits the text.
-#[tactic(auto, using(crate::proofs::ReadingLaws::star_between, crate::proofs::MatchLaws::run_splits))]
+#[tactic(auto, using(crate::proofs::ReadingLaws::star_between, crate::proofs::MatchLaws::star_splits))]
 pub fn a_star_splits_the_text()
     ensures reads { (first last : List ℕ) (front back : List Item) → items_of first ≡ Ok front → items_of last ≡ Ok back
         → items_of (first ++ 42 ∷ last) ≡ Ok (front ++ Star ∷ back) }

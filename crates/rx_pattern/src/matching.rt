@@ -2,7 +2,7 @@
 ghost use Rattle.std.specs.Prelude.{◌≡◌, ◌<◌, true, false, drop, length, MatchOption};
 ghost use Rattle.std.specs.Str.{chars};
 ghost use Rattle.rx_pattern.specs.MatchTest.{is_match, some_rest};
-ghost use Rattle.rx_pattern.specs.Tries.{first_takes_first, begins_with_run, nothing_left};
+ghost use Rattle.rx_pattern.specs.Tries.{first_takes_first, begins_with_star, nothing_left};
 
 use crate::item::Item;
 use crate::letters::split_first_char;
@@ -17,20 +17,20 @@ pub(crate) fn matches_whole(items: &[Item], text: &str) -> bool
         left = later;
         rest = behind;
     }
-    match behind_run(left) {
+    match behind_star(left) {
         Some(later) => matches_some_rest(later, rest),
         None => have_ended(left, rest),
     }
 }
 
-/// Whether the items match some rest of the text. The place to go back to is behind the last run that was reached: an
-/// earlier run need not be longer, since the later one takes what it would.
+/// Whether the items match some rest of the text. The place to go back to is behind the last star that was reached: an
+/// earlier one need not take more, since the later one takes what it would.
 fn matches_some_rest(items: &[Item], text: &str) -> bool
     ensures { result ≡ some_rest (is_match items.now) (chars text.now) }
 {
-    let mut run = items;
+    let mut star = items;
     let mut tried = text;
-    let mut left = run;
+    let mut left = star;
     let mut rest = tried;
     loop {
         if let Some((later, behind)) = take_one(left, rest) {
@@ -38,10 +38,10 @@ fn matches_some_rest(items: &[Item], text: &str) -> bool
             rest = behind;
             continue;
         }
-        if let Some(later) = behind_run(left) {
-            run = later;
+        if let Some(later) = behind_star(left) {
+            star = later;
             tried = rest;
-            left = run;
+            left = star;
             continue;
         }
         if have_ended(left, rest) {
@@ -51,7 +51,7 @@ fn matches_some_rest(items: &[Item], text: &str) -> bool
             return false;
         };
         tried = behind;
-        left = run;
+        left = star;
         rest = tried;
     }
 }
@@ -72,10 +72,10 @@ fn take_one<'a>(items: &'a [Item], text: &'a str) -> Option<(&'a [Item], &'a str
     }
 }
 
-/// What is behind the first item, where that is a run.
-fn behind_run(items: &[Item]) -> Option<&[Item]>
-    ensures { MatchOption result (begins_with_run items.now ≡ false)
-        (λ later. (begins_with_run items.now ≡ true) × (later.now ≡ drop 1 items.now)
+/// What is behind the first item, where that is a star.
+fn behind_star(items: &[Item]) -> Option<&[Item]>
+    ensures { MatchOption result (begins_with_star items.now ≡ false)
+        (λ later. (begins_with_star items.now ≡ true) × (later.now ≡ drop 1 items.now)
         × (length later.now < length items.now)) }
 {
     match items.split_first() {

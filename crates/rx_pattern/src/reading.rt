@@ -1,9 +1,9 @@
 //! How a pattern's text reads.
 ghost use Rattle.std.specs.Prelude.{◌≡◌, ◌≤◌, ◌<◌, ◌==◌, ◌++◌, ◌∷◌, true, false, drop, length, Some, None, MatchOption, IfOk};
 ghost use Rattle.std.specs.Str.{chars};
-ghost use Rattle.rx_pattern.specs.Reading.{range_end, members_of, inside_of, is_negated, behind_mark, class_of, class_width, item_of};
+ghost use Rattle.rx_pattern.specs.Reading.{range_end, members_of, inside_of, is_negated, behind_mark, class_width, item_of};
 
-use crate::class::{Class, Member, Members};
+use crate::class::{Member, Members};
 use crate::fault::NoMemory;
 use crate::item::Item;
 use crate::letters::split_first_char;

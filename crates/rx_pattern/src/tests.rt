@@ -18,7 +18,7 @@ fn open_at(alloc: Global, pattern: &str) -> Result<Option<usize>, PatternFault> 
 }
 
 #[test]
-fn runs_and_single_characters(rt: HostRuntime) -> Result<(), Fail> {
+fn stars_and_single_characters(rt: HostRuntime) -> Result<(), Fail> {
     assert!(rt; matches(rt.alloc(), "f*3.dat", "f0013.dat")?);
     assert!(rt; !matches(rt.alloc(), "f*3.dat", "f0013.data")?);
     assert!(rt; matches(rt.alloc(), "*", "")?);
@@ -76,7 +76,7 @@ fn the_first_open_class_is_named(rt: HostRuntime) -> Result<(), Fail> {
 }
 
 #[test]
-fn many_runs_on_a_long_text(rt: HostRuntime) -> Result<(), Fail> {
+fn many_stars_on_a_long_text(rt: HostRuntime) -> Result<(), Fail> {
     let mut text = String::new(rt.alloc());
     for _ in 0..20_000 {
         text.push('b')?;
