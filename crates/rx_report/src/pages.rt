@@ -1,4 +1,4 @@
-//! The page in which the text of a report waits until it goes out.
+//! The page in which the text of a report waits until it goes out. It may end inside a line of the listing.
 ghost use Rattle.std.specs.Prelude.{◌++◌, OnOk, OnErr};
 ghost use Rattle.disk_defs.specs.Count.{IsCounted};
 ghost use Rattle.disk_defs.specs.Stream.{TookPrefixOf};
