@@ -43,7 +43,7 @@ WasStopped text held before now =
     (rules : List Rule) × (tree : TreeValue) × IsPlanned text held rules tree × IsCutShort (changes_of (script (plan_of tree rules))) before now
 
 -- What a status of `redact` says, in the order of the refusals: of the rule text and what was held, of the store before and now,
--- and of what was written. A refusal leaves the store as it was, but that it was synced.
+-- and of what was written. A refusal leaves the store as it was, but that it may have been synced.
 abbrev pub RedactSays : Status → List ℕ → Held → State → State → (List ℕ → Type 0) → (List ℕ → Type 0) → Type 0
 RedactSays SourceFault text held before now Wrote BeganWith = Unit {0}
 RedactSays DeviceFault text held before now Wrote BeganWith = SaysRules text × (IsUntouched before now ⊎ WasStopped text held before now)

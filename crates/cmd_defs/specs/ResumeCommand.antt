@@ -41,7 +41,7 @@ WasStopped held before now =
     (plan : Plan) × (groups : List Bool) × (last : Bool) × IsResumed held plan groups last × IsCutShort (changes_of (rest_of plan groups last)) before now
 
 -- What a status of `resume` says, in the order of the refusals: of what was held, of the store before and now, and of what was
--- written. A refusal leaves the store as it was, but that it was synced.
+-- written. A refusal leaves the store as it was, but that it may have been synced.
 abbrev pub ResumeSays : Status → Held → State → State → (List ℕ → Type 0) → (List ℕ → Type 0) → Type 0
 ResumeSays (JournalRefused NotOpen) held before now Wrote BeganWith = ¬ (IsOpen held.journal)
 ResumeSays (JournalRefused (Bad at)) held before now Wrote BeganWith = IsOpen held.journal × (bad_at held.journal ≡ Some at)
