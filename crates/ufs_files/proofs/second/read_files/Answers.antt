@@ -14,8 +14,8 @@ use Rattle.ufs_files.proofs.second.read_files.Goals as goal
 pub loop-group-init : goal.loop-group-init
 loop-group-init g c =
     let Come : List Group → Type 0 = λ done. IsCome (told_image (g.S.Store.state c.args.store.now)) (named_files c.args.sup.now c.args.volume c.args.names.items) c.args.looked.now.items
-    (through (number_file c.args.sup.now c.args.volume c.args.names.items) c.none-filed.result (drop (length done) (numbers_of c.args.names.items))) c.args.looked.now.items in
-    let Made : List Group → Type 0 = λ done. AreMadeOf c.args.sup.now c.args.volume done c.none-filed.result.files in
+    (through (number_file c.args.sup.now c.args.volume c.args.names.items) c.in_ok-filed.filed (drop (length done) (numbers_of c.args.names.items))) c.args.looked.now.items in
+    let Made : List Group → Type 0 = λ done. AreMadeOf c.args.sup.now c.args.volume done c.in_ok-filed.filed.files in
     let None : Filed → Type 0 = λ filed. AreMadeOf c.args.sup.now c.args.volume [] filed.files in
     record {
       same = search rules;
@@ -23,9 +23,9 @@ loop-group-init g c =
       rest = all_left c.of-groups.result;
       come =
           subst Come (sym (none_taken c.of-groups.result))
-          (pass_begins (told_image (g.S.Store.state c.args.store.now)) c.args.sup.now c.args.volume c.args.names.items c.none-filed.result c.args.looked.now.items c.none-filed.ensures);
-      made = subst Made (sym (none_taken c.of-groups.result)) (subst None (sym c.none-filed.ensures) tt);
-      few = none_few c.none-filed.result c.none-filed.ensures;
+          (pass_begins (told_image (g.S.Store.state c.args.store.now)) c.args.sup.now c.args.volume c.args.names.items c.in_ok-filed.filed c.args.looked.now.items c.in_ok-filed.ensures);
+      made = subst Made (sym (none_taken c.of-groups.result)) (subst None (sym c.in_ok-filed.ensures) tt);
+      few = none_few c.in_ok-filed.filed c.in_ok-filed.ensures;
       kept = λ end last within. within;
     }
 
@@ -39,49 +39,49 @@ group_file-requires-clause-few g c = c.loop-group.invariant.few
 
 pub group_file-requires-clause-good : goal.group_file-requires-clause-good
 group_file-requires-clause-good g c =
-    let are = subst (AreGroupsOf c.args.names.items) (sym c.of-groups.ensures) c.in_ok-groups_of.ensures in
+    let are = subst (AreGroupsOf c.args.names.items) (sym c.of-groups.ensures) c.in_ok-all.ensures in
     let is = next_of c.of-groups.result c.loop-group.groups c.next.new.self c.in-Some.group c.loop-group.invariant.rest c.in-Some.ensures in
     good_group c.args.sup.now c.args.names.items c.in-Some.group c.requires.named (of_group c.args.names.items c.of-groups.result (taken c.of-groups.result c.loop-group.groups) c.in-Some.group are is.here)
 
-pub returns-in_err-filed-clause-reads : goal.returns-in_err-filed-clause-reads
-returns-in_err-filed-clause-reads g c =
-    let are = subst (AreGroupsOf c.args.names.items) (sym c.of-groups.ensures) c.in_ok-groups_of.ensures in
+pub returns-in_err-filed-2-clause-reads : goal.returns-in_err-filed-2-clause-reads
+returns-in_err-filed-2-clause-reads g c =
+    let are = subst (AreGroupsOf c.args.names.items) (sym c.of-groups.ensures) c.in_ok-all.ensures in
     let is = next_of c.of-groups.result c.loop-group.groups c.next.new.self c.in-Some.group c.loop-group.invariant.rest c.in-Some.ensures in
     pass_stops (told_image (g.S.Store.state c.args.store.now)) (told_image (g.S.Store.state c.loop-group.store)) c.args.sup.now c.args.volume c.args.names.items c.of-groups.result (taken c.of-groups.result c.loop-group.groups) c.loop-group.filed c.in-Some.group
     c.args.looked.now.items c.loop-group.looked.items (ap told_image c.loop-group.invariant.same) c.requires.known are is.here c.loop-group.invariant.come
-    c.in_err-filed.field-0.0 c.group_file.new.looked.items c.group_file.new.looked.items c.from_residual-in_err-filed.result c.from_residual-in_err-filed.ensures.0 c.from_residual-in_err-filed.ensures.1 c.in_err-filed.ensures.reads
+    c.in_err-filed-2.field-0.0 c.group_file.new.looked.items c.group_file.new.looked.items c.from_residual-in_err-filed-2.result c.from_residual-in_err-filed-2.ensures.0 c.from_residual-in_err-filed-2.ensures.1 c.in_err-filed-2.ensures.reads
 
 pub loop-group-preserved : goal.loop-group-preserved
 loop-group-preserved g c =
-    let are = subst (AreGroupsOf c.args.names.items) (sym c.of-groups.ensures) c.in_ok-groups_of.ensures in
+    let are = subst (AreGroupsOf c.args.names.items) (sym c.of-groups.ensures) c.in_ok-all.ensures in
     let is = next_of c.of-groups.result c.loop-group.groups c.next.new.self c.in-Some.group c.loop-group.invariant.rest c.in-Some.ensures in
     let Come : List Group → Type 0 = λ done. IsCome (told_image (g.S.Store.state c.args.store.now)) (named_files c.args.sup.now c.args.volume c.args.names.items) c.args.looked.now.items
-    (through (number_file c.args.sup.now c.args.volume c.args.names.items) c.in_ok-filed.filed (drop (length done) (numbers_of c.args.names.items))) c.group_file.new.looked.items in
-    let Made : List Group → Type 0 = λ done. AreMadeOf c.args.sup.now c.args.volume done c.in_ok-filed.filed.files in
+    (through (number_file c.args.sup.now c.args.volume c.args.names.items) c.in_ok-filed-2.filed (drop (length done) (numbers_of c.args.names.items))) c.group_file.new.looked.items in
+    let Made : List Group → Type 0 = λ done. AreMadeOf c.args.sup.now c.args.volume done c.in_ok-filed-2.filed.files in
     record {
-      same = c.in_ok-filed.ensures.same ∙ c.loop-group.invariant.same;
-      calm = c.in_ok-filed.ensures.counted ∙ c.loop-group.invariant.calm;
+      same = c.in_ok-filed-2.ensures.same ∙ c.loop-group.invariant.same;
+      calm = c.in_ok-filed-2.ensures.counted ∙ c.loop-group.invariant.calm;
       rest = is.left;
       come =
           subst Come (sym is.more)
           (pass_goes_on (told_image (g.S.Store.state c.args.store.now)) (told_image (g.S.Store.state c.loop-group.store)) c.args.sup.now c.args.volume c.args.names.items c.of-groups.result (taken c.of-groups.result c.loop-group.groups) c.loop-group.filed
           c.in-Some.group c.args.looked.now.items c.loop-group.looked.items (ap told_image c.loop-group.invariant.same) c.requires.known are is.here c.loop-group.invariant.come
-          c.in_ok-filed.filed c.group_file.new.looked.items c.in_ok-filed.ensures.reads);
-      made = subst Made (sym is.more) (made_more c.args.sup.now c.args.volume (taken c.of-groups.result c.loop-group.groups) c.loop-group.filed c.in_ok-filed.filed c.in-Some.group c.loop-group.invariant.made c.in_ok-filed.ensures.added);
-      few = c.in_ok-filed.ensures.added.few;
-      kept = λ end last within. c.in_ok-filed.ensures.kept_within end last (c.loop-group.invariant.kept end last within);
+          c.in_ok-filed-2.filed c.group_file.new.looked.items c.in_ok-filed-2.ensures.reads);
+      made = subst Made (sym is.more) (made_more c.args.sup.now c.args.volume (taken c.of-groups.result c.loop-group.groups) c.loop-group.filed c.in_ok-filed-2.filed c.in-Some.group c.loop-group.invariant.made c.in_ok-filed-2.ensures.added);
+      few = c.in_ok-filed-2.ensures.added.few;
+      kept = λ end last within. c.in_ok-filed-2.ensures.kept_within end last (c.loop-group.invariant.kept end last within);
     }
 
 pub returns-clause-reads : goal.returns-clause-reads
 returns-clause-reads g c =
-    let are = subst (AreGroupsOf c.args.names.items) (sym c.of-groups.ensures) c.in_ok-groups_of.ensures in
+    let are = subst (AreGroupsOf c.args.names.items) (sym c.of-groups.ensures) c.in_ok-all.ensures in
     let all = none_left c.of-groups.result c.loop-group.groups c.loop-group.invariant.rest c.in_default.ensures in
     pass_ends (told_image (g.S.Store.state c.args.store.now)) c.args.sup.now c.args.volume c.args.names.items c.of-groups.result (taken c.of-groups.result c.loop-group.groups) c.loop-group.filed c.args.looked.now.items c.loop-group.looked.items are
     (ap length all) c.loop-group.invariant.come
 
 pub returns-clause-files : goal.returns-clause-files
 returns-clause-files g c =
-    let are = subst (AreGroupsOf c.args.names.items) (sym c.of-groups.ensures) c.in_ok-groups_of.ensures in
+    let are = subst (AreGroupsOf c.args.names.items) (sym c.of-groups.ensures) c.in_ok-all.ensures in
     let all = none_left c.of-groups.result c.loop-group.groups c.loop-group.invariant.rest c.in_default.ensures in
     let P : List Group → Type 0 = λ groups. AreMadeOf c.args.sup.now c.args.volume groups c.loop-group.filed.files in
     made_files c.args.sup.now c.args.volume c.args.names.items c.of-groups.result c.loop-group.filed.files are c.requires.few c.requires.short
