@@ -188,12 +188,18 @@ fn an_image_is_redacted_and_its_journal_kept(rt: HostRuntime) -> Result<(), Fail
     for (words, want) in STEPS {
         assert_eq!(rt; status_of(&rt, words, "@its_out")?, *want);
     }
-    assert_eq!(rt; fs::read_to_string(&rt, &place(&rt, "its_out")?)?.as_str(), REPORT);
+    assert_eq!(rt;
+        fs::read_to_string(&rt, &place(&rt, "its_out")?)?.as_str(),
+        REPORT
+    );
     let mut filled = small_image(rt.alloc())?;
     put(&mut filled, 86_016, 0x0058_5858);
     assert!(rt; fs::read(&rt, &image)? == filled);
     assert_eq!(rt; fs::read(&rt, &place(&rt, "journal")?)?.len(), 75);
-    Ok(remove_files(&rt, &["redacted", "journal", "link", "its_rules", "its_out"])?)
+    Ok(remove_files(
+        &rt,
+        &["redacted", "journal", "link", "its_rules", "its_out"],
+    )?)
 }
 
 #[test]

@@ -58,7 +58,11 @@ fn outcome(
 }
 
 /// The status and the text of `plan` without trouble.
-pub(crate) fn planned(alloc: Global, image: Vec<u8>, rules: &[u8]) -> Result<(Status, Vec<u8>), AllocError> {
+pub(crate) fn planned(
+    alloc: Global,
+    image: Vec<u8>,
+    rules: &[u8],
+) -> Result<(Status, Vec<u8>), AllocError> {
     outcome(
         alloc,
         &["plan", "IMAGE", "RULES"],

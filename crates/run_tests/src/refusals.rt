@@ -123,7 +123,12 @@ fn ntfs_is_asked_for_before_ufs(rt: HostRuntime) -> Result<(), Fail> {
     let mut image = small_image(rt.alloc())?;
     put(&mut image, 3, b"NTFS    ");
     put(&mut image, 510, b"\x55\xAA");
-    answers(&rt, planned(rt.alloc(), image, RULE)?, Status::NotBuilt, b"");
+    answers(
+        &rt,
+        planned(rt.alloc(), image, RULE)?,
+        Status::NotBuilt,
+        b"",
+    );
     Ok(())
 }
 

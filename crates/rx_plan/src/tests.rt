@@ -102,7 +102,9 @@ fn plan(alloc: Global, guard: Range) -> Result<Result<Plan, PlanFault>, NoMemory
 
 #[test]
 fn a_plan_is_made(rt: HostRuntime) -> Result<(), Fail> {
-    let plan = plan(rt.alloc(), Range { at: 0, len: 8 })?.ok().ok_or("it is refused")?;
+    let plan = plan(rt.alloc(), Range { at: 0, len: 8 })?
+        .ok()
+        .ok_or("it is refused")?;
     let filled = [Claim {
         range: CONTENT,
         rule: 1,

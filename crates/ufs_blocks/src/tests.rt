@@ -72,8 +72,7 @@ fn volume_of_fragments(alloc: Global) -> Result<Vec<u8>, AllocError>
 }
 
 /// The blocks of inode 3 of a volume that is the whole image.
-fn blocks_in(alloc: Global, bytes: Vec<u8>) -> Result<Blocks, ReadFault>
-{
+fn blocks_in(alloc: Global, bytes: Vec<u8>) -> Result<Blocks, ReadFault> {
     let len = bytes.len() as u64;
     let mut store = MemStore::new(alloc, bytes, Vec::new(alloc), 0, 0, 0)?;
     let sup = read_super(&mut store, 0, len)?;
