@@ -51,7 +51,7 @@ impl InodeBlock {
         &self.bytes[begin..begin + len]
     }
 
-    /// Reads a range in place of the bytes that are kept.
+    /// Reads a range in place of the bytes that are kept, which are written over: a block of the same length isn't cleared first.
     #[tactic(auto, using(crate::proofs::KeptLaws::no_bytes))]
     pub(crate) fn read<S: Store>(
         &mut self,
@@ -59,7 +59,8 @@ impl InodeBlock {
         at: u64,
         len: usize,
     ) -> Result<(), ReadFault>
-        requires { at + len ≤ size_of Image (S.state store.old) }
+        requires inside { at + len ≤ size_of Image (S.state store.old) }
+        requires block { IsBlockOf (told_image (S.state store.old)) self.old }
         ensures block { IsBlockOf (told_image (S.state store.new)) self.new }
         ensures calm { IfErr result IsNoRefusal }
         ensures begins { OnOk result (self.new.at ≡ at) }
@@ -67,9 +68,8 @@ impl InodeBlock {
         ensures same { S.state store.new ≡ S.state store.old }
         ensures counted { IsReadCounted Image result (S.faults store.old) (S.faults store.new) }
     {
-        self.at = at;
-        self.bytes.clear();
         self.bytes.resize(len, 0)?;
+        self.at = at;
         match store.read_at(Area::Image, at, &mut self.bytes) {
             Ok(()) => Ok(()),
             Err(fault) => {

@@ -15,7 +15,7 @@ overflow_sub-sup g c =
 pub read-requires : goal.read-requires
 read-requires g c =
     let stands = in_table c.args.sup.now c.args.number c.args.at c.requires.sound c.requires.has c.requires.stands in
-    omega (arith, stands.inside, c.min-len.ensures, c.requires.inside)
+    record { inside = omega (arith, stands.inside, c.min-len.ensures, c.requires.inside); block = c.requires.block }
 
 pub returns-clause-holds : goal.returns-clause-holds
 returns-clause-holds g c =
