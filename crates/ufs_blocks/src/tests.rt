@@ -112,11 +112,14 @@ fn blocks_behind_the_twelfth_are_found(rt: HostRuntime) -> Result<(), Fail> {
 #[test]
 fn a_ufs1_has_slack_up_to_the_end_of_the_fragment(rt: HostRuntime) -> Result<(), Fail> {
     let blocks = blocks_in(rt.alloc(), volume_of_fragments(rt.alloc())?)?;
+    let parts = blocks.parts.items();
+    assert_eq!(rt; parts.len(), 1);
+    let content = &parts[0];
     let slack = [Range {
         at: 28_673,
         len: 1_023,
     }];
-    assert_eq!(rt; blocks.parts.items()[0].slack.items(), slack.as_slice());
+    assert_eq!(rt; content.slack.items(), slack.as_slice());
     Ok(())
 }
 
