@@ -5,6 +5,8 @@
                                           and then the traits, types and constants of .rt files that run and these name
     tools/definitions.py --check PAGE     status 1 where PAGE lacks one of these rows, or has one more
     tools/definitions.py --unused         definitions, laws and lemmas of specs/ and proofs/ that nothing reaches
+    tools/definitions.py --stray          status 1 where a definition stands in specs/ that no clause reaches: what proofs alone use
+                                          stands in proofs/
 
 It reads the source text alone: the clauses of crates/*/src, the `ghost use` lines that import their words, the declarations
 there, and the `use` lines of crates/*/specs and crates/*/proofs.
@@ -130,12 +132,17 @@ class Tree:
         for name, definition in self.defs.get(module, {}).items():
             if mentions(name, words, text):
                 found.append(definition)
-        for name, (other, whole) in self.imports.get(module, {}).items():
-            if whole is not None and mentions(name, words, text):
-                definition = self.find(other, whole)
-                if definition:
-                    found.append(definition)
-        return found
+        return found + self.imported(self.imports.get(module, {}), words, text)
+
+    def imported(self, imports, words, text):
+        """The definitions that a text names by imports: each by its name, or as a word of a module."""
+        found = []
+        for name, (module, whole) in imports.items():
+            if whole is None:
+                found += [self.find(module, word) for word in re.findall(rf"(?<![\w.]){re.escape(name)}\.([\w'-]+)", text)]
+            elif mentions(name, words, text):
+                found.append(self.find(module, whole))
+        return [definition for definition in found if definition]
 
     def reach(self, roots):
         seen, left = {}, list(roots)
@@ -176,16 +183,18 @@ def header_of(text, name):
 def header_roots(tree, path, header):
     """The definitions that the clauses of a header in a file name."""
     part = clauses(header)
-    words = words_of(part)
-    found = [(tree.find(module, whole), name) for name, (module, whole) in ghost_imports(path.read_text()).items() if whole]
-    return [definition for definition, name in found if definition and mentions(name, words, part)]
+    return tree.imported(ghost_imports(path.read_text()), words_of(part), part)
+
+
+def clause_roots(tree):
+    """The definitions that the clauses of all functions name."""
+    return [root for path in sorted(TOP.glob("*/src/**/*.rt")) for root in header_roots(tree, path, path.read_text())]
 
 
 def rust_roots(tree):
-    roots = []
+    roots = clause_roots(tree)
     for path in sorted(TOP.glob("*/src/**/*.rt")):
         text = path.read_text()
-        roots += header_roots(tree, path, text)
         for crate_path in re.findall(r"(?:using|unfolding)\(([^)]*)\)", text):
             for item in crate_path.split(","):
                 parts = item.strip().split("::")
@@ -207,6 +216,13 @@ def unused(tree):
         for definition in dict.fromkeys(tree.defs[module].values()):
             if definition.key() not in seen:
                 print(f"{module}: {definition.name}")
+
+
+def stray(tree):
+    """The definitions of specs/ that no clause reaches."""
+    seen = tree.reach(clause_roots(tree))
+    specs = [module for module in tree.order if ".specs." in module]
+    return [f"{d.module}: {d.name}" for module in specs for d in dict.fromkeys(tree.defs[module].values()) if d.key() not in seen]
 
 
 def inner(tree, definition):
@@ -297,16 +313,23 @@ def differences(rows, page):
     )
 
 
+def report(found):
+    """Prints what was found; the status is 1 where that is anything."""
+    lines = list(found)
+    print("\n".join(lines), end="\n" if lines else "")
+    return 1 if lines else 0
+
+
 def main():
     tree = Tree()
     if "--unused" in sys.argv:
         unused(tree)
         return 0
+    if "--stray" in sys.argv:
+        return report(f"{name} stands in specs/, and no clause reaches it" for name in stray(tree))
     rows = rows_of(tree)
     if "--check" in sys.argv:
-        differs = differences(rows, pathlib.Path(sys.argv[sys.argv.index("--check") + 1]).read_text())
-        print("\n".join(differs), end="\n" if differs else "")
-        return 1 if differs else 0
+        return report(differences(rows, pathlib.Path(sys.argv[sys.argv.index("--check") + 1]).read_text()))
     for row, says in rows.items():
         print(f"| {row} | {says} |")
     return 0

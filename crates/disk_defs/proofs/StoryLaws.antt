@@ -1,7 +1,7 @@
 -- Laws of what a disk holds after changes.
 use Rattle.std.proofs.Common.{◌≡◌, ℕ, ◌+◌, ◌≤◌, max, Some, List, ◌++◌, length, take, drop, refl, ap, arith, length-append, length-take, length-drop}
 use Rattle.disk_defs.specs.Story.{Change, Write, Cut, Sync, Made, Story, overwritten, held_by, and_then}
-use Rattle.disk_defs.specs.Disk.{State, MayChange, state_told, state_after}
+use Rattle.disk_defs.specs.Disk.{State, MayWrite, state_told, state_after}
 use Rattle.disk_defs.specs.declared.Area.TheVariants.{Image, Journal}
 
 -- an area is as long as a write takes
@@ -18,6 +18,12 @@ length-overwritten old bytes at within = omega (
 -- a store that tells this past and has these sizes
 abbrev of_sizes : Story → ℕ → ℕ → State
 of_sizes story image journal = record { sizes = record { image = image; journal = journal }; told = Some story }
+
+-- a change may be made: a write lies where bytes may be written, and a cut makes the journal no longer
+abbrev pub MayChange : Change → State → Type 0
+MayChange (Write area at bytes) state = MayWrite area at (length bytes) state
+MayChange (Cut len) state = len ≤ state.sizes.journal
+MayChange Sync state = Unit {0}
 
 -- a store that tells its past, after one more change, is the store after that change
 pub state_told_after : (change : Change) (story : Story) → MayChange change (state_told story)

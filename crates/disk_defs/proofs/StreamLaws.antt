@@ -43,15 +43,6 @@ flat_map-around piece xs i d h =
     sym (ap (flat_map piece) (take-append-drop i xs)) ∙ flat_map-append piece (take i xs) (drop i xs)
     ∙ ap (λ rest. flat_map piece (take i xs) ++ flat_map piece rest) (drop-cons xs i d h)
 
--- the pieces before an item were taken, and some first bytes of the item's own: those are first bytes of all
-pub took_prefix-in_pieces : {X : Type 0} (piece : X → List ℕ) (xs : List X) (i : ℕ) (d : X) (own : List ℕ) (before mid after : Option (List ℕ))
-    → i < length xs → own ≡ piece (slice_index_or xs i d) → mid ≡ taken_with before (flat_map piece (take i xs)) → TookPrefixOf mid after own
-    → TookPrefixOf before after (flat_map piece xs)
-took_prefix-in_pieces piece xs i d own before mid after low is whole h =
-    let more = flat_map piece (drop (suc i) xs) in
-    let all = ap (λ text. flat_map piece (take i xs) ++ (text ++ more)) is ∙ sym (flat_map-around piece xs i d low) in
-    took_prefix-within before mid after (flat_map piece (take i xs)) own more (flat_map piece xs) whole h all
-
 -- what holds holds of an error
 pub on_err : {T E P : Type 0} (r : Result T E) → P → OnErr r P
 on_err (Ok x) p = tt

@@ -65,12 +65,6 @@ abbrev pub MayWrite : Area → ℕ → ℕ → State → Type 0
 MayWrite Image at len state = at + len ≤ state.sizes.image
 MayWrite Journal at len state = at ≤ state.sizes.journal
 
--- a change may be made: a write lies where bytes may be written, and a cut makes the journal no longer
-abbrev pub MayChange : Change → State → Type 0
-MayChange (Write area at bytes) state = MayWrite area at (length bytes) state
-MayChange (Cut len) state = len ≤ state.sizes.journal
-MayChange Sync state = Unit {0}
-
 -- the sizes after a change: a write may make the journal longer, and a cut makes it shorter
 abbrev pub sizes_after : Change → Sizes → Sizes
 sizes_after (Write Image at bytes) sizes = sizes

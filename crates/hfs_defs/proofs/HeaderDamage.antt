@@ -5,7 +5,7 @@ use Rattle.std.proofs.lemmas.Bool.{true≢false, leb-true, leb-false, ltb-true, 
 use Rattle.bytes_defs.specs.Bytes.{part}
 use Rattle.image_defs.specs.Ask.{result_of}
 use Rattle.image_defs.proofs.Looks.{check_gives, check_refuses}
-use Rattle.image_defs.proofs.Runs.{result_given, result_check_false, result_check_true}
+use Rattle.image_defs.proofs.Results.{result_given, result_check_false, result_check_true}
 use Rattle.hfs_defs.specs.Damage.{IsDamage}
 use Rattle.hfs_defs.specs.Header.{header_of, is_magic, is_block_size, wrong_field, checked, volume_header}
 use Rattle.hfs_defs.specs.HeaderDamage.{HasMagic, header_in, IsFalseInHeader, ShortVolume, OtherBlockSize, BlocksPassVolume, HeaderLaw}

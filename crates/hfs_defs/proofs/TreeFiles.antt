@@ -3,7 +3,7 @@ use Rattle.std.specs.Prelude.{◌≡◌, Result, Ok, Err, ℕ, List, [], ◌∷�
 use Rattle.std.specs.List.{flat_map}
 use Rattle.std.proofs.Common.{ap, ◌∙◌}
 use Rattle.image_defs.specs.Ask.{Ask, Done, result_of, given, each, ◌>>=◌}
-use Rattle.image_defs.proofs.Runs.{result_bind_ok}
+use Rattle.image_defs.proofs.Results.{result_bind_ok}
 use Rattle.rx_ranges.specs.declared.pieces.Piece.{Piece}
 use Rattle.rx_ranges.specs.declared.pieces.PieceKind.{PieceKind}
 use Rattle.rx_ranges.specs.declared.pieces.PieceKind.TheVariants.{Disk, Zero}

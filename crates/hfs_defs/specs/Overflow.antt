@@ -1,7 +1,7 @@
 -- The records of the extents overflow file: TN1150, "Extents Overflow File".
 use Rattle.std.specs.Prelude.{ℕ, Bool, ◌&&◌, ◌==◌, nat_le, if◌then◌else◌, Option, Some, None, Result, Ok, Err, List, length, slice_index}
 use Rattle.bytes_defs.specs.Numbers.{big_at}
-use Rattle.image_defs.specs.Runs.{each_result}
+use Rattle.image_defs.specs.Results.{each_result}
 use Rattle.hfs_defs.specs.Header.{extents_of}
 use Rattle.hfs_defs.specs.Leaves.{Leaf, LeafList}
 use Rattle.fault_defs.specs.declared.Refusal.{Refusal}

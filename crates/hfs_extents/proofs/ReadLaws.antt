@@ -5,7 +5,7 @@ use Rattle.std.proofs.lemmas.Bool.{le-leb, lt-leb}
 use Rattle.std.proofs.lemmas.Bool.Decides.{Decides-eqb, eqb_tells}
 use Rattle.range_defs.specs.declared.TheConstants.{LONGEST_IMAGE}
 use Rattle.image_defs.specs.Ask.{Ask, result_of, given, ◌>>=◌}
-use Rattle.image_defs.proofs.Runs.{result_bind_ok, result_bind_err, result_check_true, result_check_false, result_given}
+use Rattle.image_defs.proofs.Results.{result_bind_ok, result_bind_err, result_check_true, result_check_false, result_given}
 use Rattle.piece_defs.specs.Places.{bytes_through}
 use Rattle.hfs_defs.specs.Forks.{blocks_in, found_fork}
 use Rattle.hfs_defs.specs.Leaves.{LeafList, leaves_of, tree_file}

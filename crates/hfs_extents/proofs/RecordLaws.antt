@@ -4,7 +4,7 @@ use Rattle.std.specs.List.{All}
 use Rattle.std.proofs.Common.{ap, sym, ◌∙◌, subst, append_assoc}
 use Rattle.std.proofs.lemmas.Bool.{false≢true}
 use Rattle.std.proofs.lemmas.List.Elements.{All-head, All-tail}
-use Rattle.image_defs.specs.Runs.{in_front_of, each_result}
+use Rattle.image_defs.specs.Results.{in_front_of, each_result}
 use Rattle.hfs_defs.specs.Leaves.{Leaf, LeafList, followed_by}
 use Rattle.hfs_defs.specs.Overflow.{checked_overflow, then_stop, overflow_records}
 use Rattle.fault_defs.specs.declared.Refusal.{Refusal}

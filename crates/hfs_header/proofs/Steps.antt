@@ -6,7 +6,7 @@ use Rattle.disk_defs.specs.Count.{Faults}
 use Rattle.disk_defs.specs.declared.Area.TheVariants.{Image}
 use Rattle.bytes_defs.specs.Bytes.{part}
 use Rattle.image_defs.specs.Ask.{result_of}
-use Rattle.image_defs.proofs.Runs.{result_given, result_check_true, result_check_false}
+use Rattle.image_defs.proofs.Results.{result_given, result_check_true, result_check_false}
 use Rattle.hfs_defs.specs.Header.{is_magic, header_of, wrong_field, checked, volume_header}
 use Rattle.hfs_defs.specs.declared.header.Header.{Header}
 use Rattle.hfs_defs.proofs.HeaderDamage.{header_law}

@@ -4,8 +4,8 @@ use Rattle.std.proofs.Common.{ap, sym, ◌∙◌, subst, ⊎_elim}
 use Rattle.std.proofs.lemmas.Bool.{true≢false}
 use Rattle.image_defs.specs.Ask.{result_of, given, ◌>>=◌}
 use Rattle.image_defs.proofs.Looks.{bind_gives, bind_refuses}
-use Rattle.image_defs.specs.Runs.{each_result}
-use Rattle.image_defs.proofs.Runs.{result_given}
+use Rattle.image_defs.specs.Results.{each_result}
+use Rattle.image_defs.proofs.Results.{result_given}
 use Rattle.piece_defs.specs.Places.{bytes_through}
 use Rattle.hfs_defs.specs.Forks.{fork_fault, FoundFork, found_or, found_fork}
 use Rattle.hfs_defs.specs.Damage.{IsDamage}

@@ -4,7 +4,7 @@ use Rattle.std.proofs.lemmas.List.{length-append}
 use Rattle.std.proofs.lemmas.Bool.Decides.{Decides-eqb}
 use Rattle.std.proofs.lemmas.Bool.{eqb-false, leb-true, leb-false}
 use Rattle.std.proofs.Common.{ap, sym, ◌∙◌, subst, ◌⊎◌, inl, inr, ⊎_elim, arith}
-use Rattle.image_defs.specs.Runs.{with_value, each_result}
+use Rattle.image_defs.specs.Results.{with_value, each_result}
 use Rattle.order_defs.specs.Sorted.{sorted_names}
 use Rattle.rx_tree.specs.PartValue.{PartValue}
 use Rattle.rx_tree.specs.declared.file.FileEntry.{FileEntry}

@@ -2,21 +2,21 @@
 use Rattle.std.specs.Prelude.{◌≡◌, ℕ, ◌+◌, ◌-◌, ◌<◌, ◌≤◌, ◌==◌, true, IsTrue, nat_le, Option, Some, None, Result, Ok, List, [], ◌∷◌, ◌++◌, length, slice_get, refl}
 use Rattle.std.specs.List.{All, sum_by, flat_map}
 use Rattle.std.proofs.Common.{ap, sym, ◌∙◌, subst, arith, ⊎_elim, append-nil}
-use Rattle.std.proofs.lemmas.Bool.{cases_lt, or_cases, or_left, or_right}
+use Rattle.std.proofs.lemmas.Bool.{cases_lt, or_left, or_right}
 use Rattle.std.proofs.lemmas.Bool.Decides.{nat_tests}
 use Rattle.std.proofs.lemmas.List.Elements.{All-head, All-tail, All-weaker}
 use Rattle.std.proofs.lemmas.Option.{slice_get_past}
 use Rattle.range_defs.specs.declared.Range.{Range}
 use Rattle.range_defs.specs.Places.{in_range, covers, longest_ranges}
-use Rattle.range_defs.proofs.RangeLaws.{longest_ranges_covers}
+use Rattle.range_defs.proofs.RangeLaws.{longest_ranges_covers, covers_front, covers_back}
 use Rattle.bytes_defs.specs.Bytes.{part}
 use Rattle.image_defs.specs.Ask.{Ask, Done, result_of, visits, ◌>>=◌, look, check, given, each}
 use Rattle.image_defs.specs.Agreement.{AgreeOn}
 use Rattle.image_defs.proofs.Agreement.{result_agree}
 use Rattle.image_defs.specs.Looks.{LooksAt}
 use Rattle.image_defs.proofs.Looks.{looks_nowhere, looks_done, looks_bind, looks_check, looks_look, looks_given, bind_gives, check_gives}
-use Rattle.image_defs.specs.Runs.{each_result}
-use Rattle.image_defs.proofs.Runs.{result_given, visits_check}
+use Rattle.image_defs.specs.Results.{each_result}
+use Rattle.image_defs.proofs.Results.{result_given, visits_check}
 use Rattle.image_defs.specs.ViaLaws.{LiesIn}
 use Rattle.image_defs.proofs.ViaLaws.{agree_on_looks}
 use Rattle.rx_ranges.specs.declared.pieces.Piece.{Piece}
@@ -138,17 +138,6 @@ leaves_look P image header records fork place some guarded =
 
 -- ---- the guard has them
 
-covers_left : (ranges others : List Range) (byte : ℕ) → covers ranges byte ≡ true → covers (ranges ++ others) byte ≡ true
-covers_left [] others byte covered = absurd cc
-covers_left (range ∷ ranges) others byte covered =
-    ⊎_elim (λ first. or_left (in_range range byte) (covers (ranges ++ others) byte) first)
-    (λ rest. or_right (in_range range byte) (covers (ranges ++ others) byte) (covers_left ranges others byte rest))
-    (or_cases (in_range range byte) (covers ranges byte) covered)
-
-covers_right : (ranges others : List Range) (byte : ℕ) → covers others byte ≡ true → covers (ranges ++ others) byte ≡ true
-covers_right [] others byte covered = covered
-covers_right (range ∷ ranges) others byte covered = or_right (in_range range byte) (covers (ranges ++ others) byte) (covers_right ranges others byte covered)
-
 -- ranges that lie in those behind the first two
 blocks_guarded : (first last : Range) (blocks : List Range) (byte : ℕ) → covers blocks byte ≡ true → covers (first ∷ last ∷ blocks) byte ≡ true
 blocks_guarded first last blocks byte covered = or_right (in_range first byte) (covers (last ∷ blocks) byte) (or_right (in_range last byte) (covers blocks byte) covered)
@@ -158,13 +147,13 @@ extents_guarded header overflow range lies byte from to =
     let P : List Extent → Type 0 = λ extents. covers (block_ranges header extents) byte ≡ true in
     let catalog : List Range = block_ranges header (extents_with (records_of overflow 4 0) header.catalog) in
     blocks_guarded _ _ (block_ranges header header.extents.extents ++ catalog) byte
-    (covers_left (block_ranges header header.extents.extents) catalog byte (subst P (append-nil header.extents.extents) (lies byte from to)))
+    (covers_front (block_ranges header header.extents.extents) catalog byte (subst P (append-nil header.extents.extents) (lies byte from to)))
 
 catalog_guarded : (header : Header) (overflow : List OverflowRecord) (range : Range) → IsCovered (block_ranges header (extents_with (records_of overflow 4 0) header.catalog)) range
     → IsCovered (guard_ranges header overflow) range
 catalog_guarded header overflow range lies byte from to =
     let catalog : List Range = block_ranges header (extents_with (records_of overflow 4 0) header.catalog) in
-    blocks_guarded _ _ (block_ranges header header.extents.extents ++ catalog) byte (covers_right (block_ranges header header.extents.extents) catalog byte (lies byte from to))
+    blocks_guarded _ _ (block_ranges header header.extents.extents ++ catalog) byte (covers_back (block_ranges header header.extents.extents) catalog byte (lies byte from to))
 
 overflow_looks : (image : List ℕ) (header : Header) (overflow : List OverflowRecord) → 0 < header.block_size → LooksAt (IsCovered (guard_ranges header overflow)) image (volume_overflow header)
 unfolding volume_overflow

@@ -1,7 +1,7 @@
 -- Where the fault of several results in a row comes from.
 use Rattle.std.specs.Prelude.{◌≡◌, ◌⊎◌, Option, Some, None, Result, Ok, Err, List, [], ◌∷◌, ◌++◌, refl}
 use Rattle.std.proofs.Common.{ap, sym, ◌∙◌, inl, inr}
-use Rattle.image_defs.specs.Runs.{with_value, in_front_of, each_result}
+use Rattle.image_defs.specs.Results.{with_value, in_front_of, each_result}
 use Rattle.hfs_defs.specs.Overflow.{then_stop}
 use Rattle.fault_defs.specs.declared.Refusal.{Refusal}
 

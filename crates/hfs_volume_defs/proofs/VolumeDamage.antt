@@ -6,8 +6,8 @@ use Rattle.std.proofs.lemmas.Bool.{leb-true, leb-false, eqb-false}
 use Rattle.std.proofs.lemmas.Bool.Decides.{Decides-eqb}
 use Rattle.image_defs.specs.Ask.{Ask, Done, result_of, check, given, ◌>>=◌}
 use Rattle.image_defs.proofs.Looks.{bind_gives, check_gives, given_gives, bind_refuses, check_refuses, given_refuses}
-use Rattle.image_defs.specs.Runs.{with_value, each_result}
-use Rattle.image_defs.proofs.Runs.{result_given, result_bind_ok, result_bind_err}
+use Rattle.image_defs.specs.Results.{with_value, each_result}
+use Rattle.image_defs.proofs.Results.{result_given, result_bind_ok, result_bind_err}
 use Rattle.rx_tree.specs.TreeValue.{TreeValue}
 use Rattle.rx_tree.specs.declared.file.FileEntry.{FileEntry}
 use Rattle.hfs_defs.specs.Header.{volume_header}

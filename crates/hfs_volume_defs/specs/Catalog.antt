@@ -2,7 +2,7 @@
 use Rattle.std.specs.Prelude.{ℕ, zero, suc, ◌+◌, ◌*◌, ◌%◌, Bool, ◌&&◌, ◌||◌, ◌==◌, nat_le, if◌then◌else◌, Option, Some, None, Result, Ok, Err, List, [], ◌∷◌, length, slice_index, true, false}
 use Rattle.std.specs.List.{filter_map}
 use Rattle.bytes_defs.specs.Numbers.{big_at}
-use Rattle.image_defs.specs.Runs.{with_value}
+use Rattle.image_defs.specs.Results.{with_value}
 use Rattle.hfs_defs.specs.Header.{fork_of}
 use Rattle.hfs_defs.specs.Leaves.{Leaf, LeafList}
 use Rattle.hfs_defs.specs.Overflow.{each_leaf}

@@ -3,7 +3,7 @@
 use Rattle.std.specs.Prelude.{◌≡◌, ◌≤◌, ℕ, zero, suc, ◌+◌, ◌<◌, Bool, true, false, Some, Ok, Err, List, [], ◌∷◌, ◌++◌, length}
 use Rattle.std.specs.List.{sum_by}
 use Rattle.image_defs.specs.Ask.{result_of}
-use Rattle.image_defs.specs.Runs.{each_result}
+use Rattle.image_defs.specs.Results.{each_result}
 use Rattle.piece_defs.specs.Places.{bytes_through}
 use Rattle.name_defs.specs.Texts.{units_text}
 use Rattle.rx_tree.specs.Path.{joined_path}

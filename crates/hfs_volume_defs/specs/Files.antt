@@ -1,6 +1,6 @@
 -- The files of a volume: their names, and their forks as parts.
 use Rattle.std.specs.Prelude.{ℕ, ◌+◌, ◌*◌, Bool, false, not, ◌||◌, ◌==◌, if◌then◌else◌, bit_and, Option, Some, None, Result, Ok, Err, List, [], ◌∷◌, ◌++◌, decimal, codes}
-use Rattle.image_defs.specs.Runs.{with_value, each_result}
+use Rattle.image_defs.specs.Results.{with_value, each_result}
 use Rattle.rx_time.specs.Moments.{hfs_moment}
 use Rattle.rx_tree.specs.PartValue.{PartValue}
 use Rattle.rx_tree.specs.declared.part.Role.TheVariants.{Content}

@@ -6,7 +6,7 @@ use Rattle.range_defs.specs.declared.TheConstants.{LONGEST_IMAGE}
 use Rattle.range_defs.specs.Places.{covers, longest_ranges}
 use Rattle.image_defs.specs.Ask.{Ask, Done, Stop, result_of, check, given, ◌>>=◌, ◌>>◌}
 use Rattle.image_defs.specs.Agreement.{AgreeOn}
-use Rattle.image_defs.specs.Runs.{each_result}
+use Rattle.image_defs.specs.Results.{each_result}
 use Rattle.rx_tree.specs.TreeValue.{TreeValue}
 use Rattle.rx_tree.specs.declared.file.FileEntry.{FileEntry}
 use Rattle.rx_tree.specs.declared.volume.FsKind.TheVariants.{HfsPlus}

@@ -1,6 +1,5 @@
 pub mod Agreement
 pub mod Guard
 pub mod Looks
-pub mod Runs
-pub mod Standing
+pub mod Results
 pub mod ViaLaws

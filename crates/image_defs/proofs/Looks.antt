@@ -6,8 +6,8 @@ use Rattle.std.proofs.lemmas.List.Elements.{All-head, All-tail, All-cons, All-ni
 use Rattle.range_defs.specs.declared.Range.{Range}
 use Rattle.bytes_defs.specs.Bytes.{part}
 use Rattle.image_defs.specs.Ask.{Ask, Done, Stop, Look, result_of, visits, ◌>>=◌, check, given, each}
-use Rattle.image_defs.specs.Runs.{in_front_of, each_result}
-use Rattle.image_defs.proofs.Runs.{result_bind, result_next, visits_bind_ok, result_each}
+use Rattle.image_defs.specs.Results.{in_front_of, each_result}
+use Rattle.image_defs.proofs.Results.{result_bind, result_next, visits_bind_ok, result_each}
 use Rattle.image_defs.specs.Looks.{LooksAt}
 
 -- no range is looked at

@@ -11,7 +11,7 @@ use Rattle.bytes_defs.specs.Bytes.{part}
 use Rattle.image_defs.specs.Ask.{Ask, Done, Stop, Look, result_of, visits, ◌>>=◌}
 use Rattle.image_defs.specs.Agreement.{AgreeOn}
 use Rattle.image_defs.proofs.Agreement.{covers_first, covers_behind, footprint_law}
-use Rattle.image_defs.proofs.Runs.{result_bind_ok}
+use Rattle.image_defs.proofs.Results.{result_bind_ok}
 use Rattle.image_defs.specs.Looks.{LooksAt}
 use Rattle.image_defs.proofs.Looks.{looks_nowhere, looks_done, looks_weaker, looks_bind, looks_bind_ok, looks_look}
 use Rattle.image_defs.specs.Via.{byte_of, seen_from, seen, look_byte, look_bytes, via, with_faults}

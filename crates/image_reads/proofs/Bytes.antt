@@ -1,14 +1,10 @@
 -- Ranges that have the same bytes.
-use Rattle.std.specs.Prelude.{◌≡◌, ℕ, zero, suc, if◌then◌else◌, ◌||◌, List, [], ◌∷◌, ◌++◌, refl}
-use Rattle.std.proofs.Common.{ap, sym, ◌∙◌, arith}
-use Rattle.std.proofs.lemmas.Bool.Decides.{nat_tests}
+use Rattle.std.specs.Prelude.{◌≡◌, ℕ, zero, suc, if◌then◌else◌, ◌||◌, List, ◌++◌, refl}
+use Rattle.std.proofs.Common.{ap, sym, ◌∙◌}
 use Rattle.range_defs.specs.declared.Range.{Range}
 use Rattle.range_defs.specs.Places.{covers, in_front, longest_ranges}
+use Rattle.range_defs.proofs.RangeLaws.{covers_append}
 use Rattle.image_reads.specs.Steps.{SameBytes}
-
-pub covers_append : (ranges others : List Range) (byte : ℕ) → covers (ranges ++ others) byte ≡ (covers ranges byte || covers others byte)
-covers_append [] others byte = refl
-covers_append (range ∷ ranges) others byte = grind (arith, nat_tests, covers_append ranges others byte)
 
 -- the same ranges
 pub same_ranges : (one other : List Range) → one ≡ other → SameBytes one other

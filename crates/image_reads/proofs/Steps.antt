@@ -5,21 +5,19 @@ use Rattle.range_defs.specs.declared.Range.{Range}
 use Rattle.range_defs.specs.Places.{covers}
 use Rattle.image_defs.specs.Ask.{Ask, Done, Stop, result_of, visits, check, ◌>>=◌}
 use Rattle.image_defs.specs.Through.{through}
-use Rattle.image_defs.proofs.Runs.{result_bind_ok, result_bind_err, visits_bind_ok}
+use Rattle.image_defs.proofs.Results.{result_bind_ok, result_bind_err, visits_bind_ok}
 use Rattle.fault_defs.specs.declared.Refusal.{Refusal}
 use Rattle.fault_defs.specs.declared.Refusal.TheVariants as refusal
 use Rattle.rx_store.specs.declared.read_fault.ReadFault.{ReadFault}
 use Rattle.rx_store.specs.declared.read_fault.ReadFault.TheVariants.{Device, NoMemory, NotThis, Damaged, Unsupported, Limit}
 use Rattle.rx_store.specs.Answers.{Answers}
 use Rattle.rx_store.specs.ReadFaults.{fault_of}
-use Rattle.image_defs.specs.Standing.{StandsIn}
-use Rattle.image_defs.specs.Standing as kept
-use Rattle.image_defs.proofs.Standing as standing
-use Rattle.image_reads.specs.Steps.{ReadsAs, IsCome, SameBytes, IsNoRefusal}
+use Rattle.image_reads.specs.Steps.{ReadsAs, SameBytes, IsNoRefusal}
+use Rattle.image_reads.proofs.Coming.{StandsIn, IsCome}
 use Rattle.image_reads.proofs.Bytes.{same_front}
 
 -- a fault says of a program what it says of another that stops with the same refusals
-fault_says : {X Y : Type 0} (fault : ReadFault) (one : Result X Refusal) (other : Result Y Refusal) → ((e : Refusal) → one ≡ Err e → other ≡ Err e)
+pub fault_says : {X Y : Type 0} (fault : ReadFault) (one : Result X Refusal) (other : Result Y Refusal) → ((e : Refusal) → one ≡ Err e → other ≡ Err e)
     → (let from : Result X ReadFault = Err fault in Answers from one) → (let to : Result Y ReadFault = Err fault in Answers to other)
 fault_says Device one other onward says = tt
 fault_says NoMemory one other onward says = tt
@@ -29,13 +27,13 @@ fault_says (Unsupported what place) one other onward says = onward (refusal.Unsu
 fault_says (Limit bound number) one other onward says = onward (refusal.Limit bound number) says
 
 pub begins : {X : Type 0} (told : Option (List ℕ)) (whole : Ask Refusal X) (before : List Range) → IsCome told whole before whole before
-begins told whole before = record { ranges = before; same = λ byte. refl; stands = standing.begins told whole before }
+begins None whole before = tt
+begins (Some image) whole before = record { gives = refl; looks = λ byte. refl }
 
 -- through a test, whose value is known
 pub comes_past : {Y : Type 0} (told : Option (List ℕ)) (whole : Ask Refusal Y) (before : List Range) (test : Bool) (fault : Refusal) (next : Unit {0} → Ask Refusal Y) (now : List Range) (value : Bool)
     → test ≡ value → IsCome told whole before (check test fault >>= next) now → IsCome told whole before (check value fault >>= next) now
-comes_past told whole before test fault next now value is come =
-    record { ranges = come.ranges; same = come.same; stands = standing.comes_past told whole before test fault next come.ranges value is come.stands }
+comes_past told whole before test fault next now value is come = subst (λ t. IsCome told whole before (check t fault >>= next) now) is come
 
 -- what is left is the same program
 pub comes_to : {X : Type 0} (told : Option (List ℕ)) (whole : Ask Refusal X) (before : List Range) (left other : Ask Refusal X) (looked : List Range) → left ≡ other → IsCome told whole before left looked → IsCome told whole before other looked
@@ -45,27 +43,24 @@ module _ {Y : Type 0} (told : Option (List ℕ)) (whole : Ask Refusal Y) (before
   module _ {X : Type 0} (later : Option (List ℕ)) (step : Ask Refusal X) (next : X → Ask Refusal Y) (now : List Range) (same : later ≡ told) (come : IsCome told whole before (step >>= next) now) where
     -- a step gave a value: what follows it is left
     pub comes_value : (x : X) (looked : List Range) → ReadsAs later step now looked (Ok x) → IsCome told whole before (next x) looked
-    comes_value x looked read = by_told told come.stands (let P : Option (List ℕ) → Type 0 = λ found. ReadsAs found step now looked (Ok x) in subst P same read)
+    comes_value x looked read = by_told told come (let P : Option (List ℕ) → Type 0 = λ found. ReadsAs found step now looked (Ok x) in subst P same read)
       where
-        by_told : (found : Option (List ℕ)) → kept.IsCome found whole before (step >>= next) come.ranges → ReadsAs found step now looked (Ok x) → IsCome found whole before (next x) looked
-        by_told None stands read = record { ranges = looked; same = λ byte. refl; stands = tt }
+        by_told : (found : Option (List ℕ)) → IsCome found whole before (step >>= next) now → ReadsAs found step now looked (Ok x) → IsCome found whole before (next x) looked
+        by_told None stands read = tt
         by_told (Some image) stands read = record {
-          ranges = come.ranges ++ visits image step;
-          same = λ byte. read.looks byte ∙ same_front now come.ranges (visits image step) come.same byte;
-          stands = record {
-            gives = stands.gives ∙ result_bind_ok image step next x read.given;
-            looks =
-                stands.looks
-                ∙ ap (λ ranges. come.ranges ++ ranges) (visits_bind_ok image step next x read.given)
-                ∙ sym (append_assoc come.ranges (visits image step) (visits image (next x)));
-          };
+          gives = stands.gives ∙ result_bind_ok image step next x read.given;
+          looks = λ byte.
+              stands.looks byte
+              ∙ ap (λ ranges. covers (now ++ ranges) byte) (visits_bind_ok image step next x read.given)
+              ∙ ap (λ ranges. covers ranges byte) (sym (append_assoc now (visits image step) (visits image (next x))))
+              ∙ same_front (now ++ visits image step) looked (visits image (next x)) (λ one. sym (read.looks one)) byte;
         }
 
     -- a step stopped: the whole stops with the same
     pub comes_fault : (fault : ReadFault) (looked last : List Range) → ReadsAs later step now looked (Err fault) → ReadsAs told whole before last (Err fault)
-    comes_fault fault looked last read = by_told told come.stands (let P : Option (List ℕ) → Type 0 = λ found. ReadsAs found step now looked (Err fault) in subst P same read)
+    comes_fault fault looked last read = by_told told come (let P : Option (List ℕ) → Type 0 = λ found. ReadsAs found step now looked (Err fault) in subst P same read)
       where
-        by_told : (found : Option (List ℕ)) → kept.IsCome found whole before (step >>= next) come.ranges → ReadsAs found step now looked (Err fault) → ReadsAs found whole before last (Err fault)
+        by_told : (found : Option (List ℕ)) → IsCome found whole before (step >>= next) now → ReadsAs found step now looked (Err fault) → ReadsAs found whole before last (Err fault)
         by_told None stands read = tt
         by_told (Some image) stands read = record {
           given = fault_says fault (result_of image step) (result_of image whole) (λ e stops. stands.gives ∙ result_bind_err image step next e stops) read.given;
@@ -74,13 +69,13 @@ module _ {Y : Type 0} (told : Option (List ℕ)) (whole : Ask Refusal Y) (before
 
   -- what is left was read
   pub comes_rest : (later : Option (List ℕ)) (left : Ask Refusal Y) (now looked : List Range) (result : Result Y ReadFault) → later ≡ told → IsCome told whole before left now → ReadsAs later left now looked result → ReadsAs told whole before looked result
-  comes_rest later left now looked result same come read = by_told told come.stands (let P : Option (List ℕ) → Type 0 = λ found. ReadsAs found left now looked result in subst P same read)
+  comes_rest later left now looked result same come read = by_told told come (let P : Option (List ℕ) → Type 0 = λ found. ReadsAs found left now looked result in subst P same read)
     where
-      behind : (image : List ℕ) (result : Result Y ReadFault) → StandsIn image whole before left come.ranges → OnOk result (SameBytes looked (now ++ visits image left)) → OnOk result (SameBytes looked (before ++ visits image whole))
-      behind image (Ok y) stands looks = λ byte. looks byte ∙ same_front now come.ranges (visits image left) come.same byte ∙ ap (λ ranges. covers ranges byte) (sym stands.looks)
+      behind : (image : List ℕ) (result : Result Y ReadFault) → StandsIn image whole before left now → OnOk result (SameBytes looked (now ++ visits image left)) → OnOk result (SameBytes looked (before ++ visits image whole))
+      behind image (Ok y) stands looks = λ byte. looks byte ∙ sym (stands.looks byte)
       behind image (Err fault) stands looks = tt
 
-      by_told : (found : Option (List ℕ)) → kept.IsCome found whole before left come.ranges → ReadsAs found left now looked result → ReadsAs found whole before looked result
+      by_told : (found : Option (List ℕ)) → IsCome found whole before left now → ReadsAs found left now looked result → ReadsAs found whole before looked result
       by_told None stands read = tt
       by_told (Some image) stands read = record {
         given = let P : Result Y Refusal → Type 0 = λ gives. Answers result gives in subst P (sym stands.gives) read.given;
@@ -89,18 +84,18 @@ module _ {Y : Type 0} (told : Option (List ℕ)) (whole : Ask Refusal Y) (before
 
   -- nothing is left
   pub comes_done : (y : Y) (looked : List Range) → IsCome told whole before (Done y) looked → ReadsAs told whole before looked (Ok y)
-  comes_done y looked come = by_told told come.stands
+  comes_done y looked come = by_told told come
     where
-      by_told : (found : Option (List ℕ)) → kept.IsCome found whole before (Done y) come.ranges → ReadsAs found whole before looked (Ok y)
+      by_told : (found : Option (List ℕ)) → IsCome found whole before (Done y) looked → ReadsAs found whole before looked (Ok y)
       by_told None stands = tt
       by_told (Some image) stands = record {
         given = stands.gives;
-        looks = λ byte. come.same byte ∙ ap (λ ranges. covers ranges byte) (sym (append-nil come.ranges) ∙ sym stands.looks);
+        looks = λ byte. ap (λ ranges. covers ranges byte) (sym (append-nil looked)) ∙ sym (stands.looks byte);
       }
 
   -- the program stops
   pub comes_stop : (e : Refusal) (now looked : List Range) → IsCome told whole before (Stop e) now → ReadsAs told whole before looked (Err (fault_of e))
-  comes_stop e now looked come = by_told told come.stands
+  comes_stop e now looked come = by_told told come
     where
       by_fault : (image : List ℕ) (e : Refusal) → result_of image whole ≡ Err e → (let fault : Result Y ReadFault = Err (fault_of e) in Answers fault (result_of image whole))
       by_fault image refusal.NotThis gives = gives
@@ -108,7 +103,7 @@ module _ {Y : Type 0} (told : Option (List ℕ)) (whole : Ask Refusal Y) (before
       by_fault image (refusal.Unsupported what place) gives = gives
       by_fault image (refusal.Limit bound number) gives = gives
 
-      by_told : (found : Option (List ℕ)) → kept.IsCome found whole before (Stop e) come.ranges → ReadsAs found whole before looked (Err (fault_of e))
+      by_told : (found : Option (List ℕ)) → IsCome found whole before (Stop e) now → ReadsAs found whole before looked (Err (fault_of e))
       by_told None stands = tt
       by_told (Some image) stands = record { given = by_fault image e stands.gives; looks = tt }
 

@@ -3,7 +3,6 @@ use Rattle.std.specs.Prelude.{◌≡◌, ℕ, ◌+◌, ◌≤◌, All, Option, I
 use Rattle.range_defs.specs.Places.{covers}
 use Rattle.range_defs.specs.declared.Range.{Range}
 use Rattle.image_defs.specs.Ask.{Ask, result_of, visits}
-use Rattle.image_defs.specs.Standing as standing
 use Rattle.fault_defs.specs.declared.Refusal.{Refusal}
 use Rattle.rx_store.specs.declared.read_fault.ReadFault.{ReadFault}
 use Rattle.rx_store.specs.declared.read_fault.ReadFault.TheVariants.{Device, NoMemory, NotThis, Damaged, Unsupported, Limit}
@@ -22,13 +21,6 @@ pub record IsRead {X : Type 0} (image : List ℕ) (program : Ask Refusal X) (bef
 -- the same of the image that a store tells, where it tells one
 abbrev pub ReadsAs : {X : Type 0} → Option (List ℕ) → Ask Refusal X → List Range → List Range → Result X ReadFault → Type 0
 ReadsAs told program before looked result = IfSome told (λ image. IsRead image program before looked result)
-
--- A reader has come to what is left of a program: it stands where one stands that keeps each range by itself, and what it kept
--- has the same bytes.
-pub record IsCome {X : Type 0} (told : Option (List ℕ)) (whole : Ask Refusal X) (before : List Range) (left : Ask Refusal X) (looked : List Range) : Type 0 where
-  pub ranges : List Range
-  pub same : SameBytes looked ranges
-  pub stands : standing.IsCome told whole before left ranges
 
 -- a fault that says nothing of the image: the device failed, or memory ran out
 abbrev pub IsNoRefusal : ReadFault → Type 0

@@ -15,7 +15,7 @@ ghost use Rattle.bytes_defs.specs.Bytes.{part};
 ghost use Rattle.disk_defs.specs.Disk.{size_of, told_image};
 ghost use Rattle.disk_defs.specs.declared.Area.TheVariants.{Image};
 ghost use Rattle.image_defs.specs.Ask.{look};
-ghost use Rattle.image_defs.specs.Runs.{with_value};
+ghost use Rattle.image_defs.specs.Results.{with_value};
 ghost use Rattle.image_reads.specs.Steps.{IsNoRefusal, KeptWithin, ReadsAs, SameBytes};
 ghost use Rattle.rx_store.specs.ReadFaults.{IsReadCounted};
 

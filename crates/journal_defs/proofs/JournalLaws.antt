@@ -1,12 +1,12 @@
 -- The laws of journals.
-use Rattle.std.specs.Prelude.{◌≡◌, ℕ, zero, suc, ◌+◌, ◌*◌, ◌<◌, false, All, None, map, replicate, List, [], ◌∷◌, ◌++◌, length, take, drop, slice_index, sum_by, refl}
+use Rattle.std.specs.Prelude.{◌≡◌, ℕ, zero, suc, ◌+◌, ◌*◌, ◌<◌, Bool, false, All, None, map, replicate, List, [], ◌∷◌, ◌++◌, length, take, drop, slice_index, sum_by, refl}
 use Rattle.std.specs.List.{flat_map}
 use Rattle.std.proofs.Common.{ap, sym, subst, ◌∙◌, arith}
 use Rattle.std.proofs.lemmas.List.{get_or-drop, length-drop, length-replicate, same_from_push, take_all, take_more}
 use Rattle.std.proofs.lemmas.List.Elements.{All-drop, All-replicate, All-take}
 use Rattle.bytes_defs.specs.Bytes.{part}
 use Rattle.journal_defs.specs.Form.{group_count, range_bytes, line_bytes, listing_len, groups_of, body_len, journal_len, header_rest, journal_bytes, is_set, IsOpen, IsJournal}
-use Rattle.journal_defs.specs.Reading.{range_count_in, line_count_in, body_len_in, listing_len_in, listing_place, listing_end, claims_in, lines_in, plan_in, groups_in, last_in}
+use Rattle.journal_defs.specs.Reading.{range_count_in, line_count_in, body_len_in, listing_len_in, listing_place, listing_end, claims_in, lines_in, plan_in}
 use Rattle.journal_defs.specs.Checks.{first_failing, header_checks, ranges_checks, lines_checks, bad_at}
 use Rattle.journal_defs.specs.Laws.{ChecksLaw, OneJournalLaw, FirstJournalLaw, LengthLaw}
 use Rattle.journal_defs.specs.declared.TheConstants.{OPEN_GATE}
@@ -64,6 +64,13 @@ journal_read bytes plan marks last is each form =
     }
 
 -- ---- a journal that passes its checks was written
+
+-- the marks behind the listing, one for each group, and the last one
+abbrev pub groups_in : List ℕ → List Bool
+groups_in bytes = map is_set (part bytes (listing_end bytes) (group_count (range_count_in bytes)))
+
+abbrev pub last_in : List ℕ → Bool
+last_in bytes = is_set (slice_index bytes (listing_end bytes + group_count (range_count_in bytes)))
 
 -- what was written where none of the checks fails
 pub record IsWritten (bytes : List ℕ) : Type 0 where

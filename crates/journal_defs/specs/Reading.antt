@@ -1,8 +1,7 @@
 -- What stands at a place of a journal.
-use Rattle.std.specs.Prelude.{ℕ, zero, suc, ◌+◌, ◌*◌, ◌==◌, if◌then◌else◌, Bool, map, slice_index, List, [], ◌∷◌}
+use Rattle.std.specs.Prelude.{ℕ, zero, suc, ◌+◌, ◌*◌, ◌==◌, if◌then◌else◌, slice_index, List, [], ◌∷◌}
 use Rattle.bytes_defs.specs.Bytes.{part}
 use Rattle.bytes_defs.specs.Numbers.{little_at}
-use Rattle.journal_defs.specs.Form.{group_count, is_set}
 use Rattle.journal_defs.specs.declared.TheConstants.{HEADER_LEN, RANGE_LEN}
 use Rattle.range_defs.specs.declared.Claim.{Claim}
 use Rattle.rx_ranges.specs.declared.plan.ListKind.{ListKind}
@@ -76,10 +75,3 @@ plan_in bytes = record {
   ranges = claims_in bytes HEADER_LEN (range_count_in bytes);
   listing = lines_in bytes (listing_place bytes) (line_count_in bytes);
 }
-
--- the marks behind the listing, one for each group, and the last one
-abbrev pub groups_in : List ℕ → List Bool
-groups_in bytes = map is_set (part bytes (listing_end bytes) (group_count (range_count_in bytes)))
-
-abbrev pub last_in : List ℕ → Bool
-last_in bytes = is_set (slice_index bytes (listing_end bytes + group_count (range_count_in bytes)))

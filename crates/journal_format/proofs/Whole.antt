@@ -8,9 +8,9 @@ use Rattle.bytes_defs.specs.Bytes.{part}
 use Rattle.bytes_defs.specs.declared.order.Order.TheVariants.{Little}
 use Rattle.journal_defs.specs.Checks.{Check, first_failing, header_checks, ranges_checks, lines_checks, journal_checks}
 use Rattle.journal_defs.specs.Form.{group_count, groups_of, is_set, journal_len, IsOpen, IsJournal}
-use Rattle.journal_defs.specs.Reading.{image_len_in, range_count_in, line_count_in, listing_place, listing_end, claims_in, lines_in, plan_in, groups_in, last_in}
+use Rattle.journal_defs.specs.Reading.{image_len_in, range_count_in, line_count_in, listing_place, listing_end, claims_in, lines_in, plan_in}
 use Rattle.journal_defs.proofs.Fields.{AreBytes}
-use Rattle.journal_defs.proofs.JournalLaws.{journal_written}
+use Rattle.journal_defs.proofs.JournalLaws.{groups_in, last_in, journal_written}
 use Rattle.journal_defs.proofs.Journals.{header_holds}
 use Rattle.journal_defs.proofs.Passing.{nothing_fails, pass_all}
 use Rattle.journal_defs.proofs.Ranges.{ranges_written}

@@ -1,12 +1,11 @@
 -- Boot sectors: sizes of records, the tests one after the other, and what holds of a volume that passes them.
-use Rattle.std.proofs.Common.{◌≡◌, ℕ, ◌+◌, ◌*◌, ◌/◌, ◌%◌, ◌^◌, ◌<◌, ◌≤◌, min, Bool, true, false, ℤ, pos, negsuc, List, [], ◌∷◌, Option, Some, None, IfSome, Result, Ok, Err, arith, ap, sym, ◌∙◌, subst, ⊎_elim, refl}
-use Rattle.std.specs.Prelude.{◌==◌, nat_lt, nat_le, if◌then◌else◌, slice_index}
-use Rattle.std.specs.List.{list_any}
+use Rattle.std.proofs.Common.{◌≡◌, ℕ, ◌+◌, ◌*◌, ◌/◌, ◌%◌, ◌^◌, ◌<◌, ◌≤◌, min, Bool, true, false, ℤ, pos, negsuc, List, Option, Some, None, IfSome, Result, Ok, Err, arith, ap, sym, ◌∙◌, subst, ⊎_elim, refl}
+use Rattle.std.specs.Prelude.{nat_lt, nat_le, if◌then◌else◌, slice_index}
 use Rattle.std.specs.Int.{w8, cast_signed, cast_unsigned}
 use Rattle.std.proofs.lemmas.Int.{of_z-to_z}
 use Rattle.std.proofs.Math.Pow.{pow-lt, pow_mono}
 use Rattle.std.proofs.Math.Nat.{div-mul-le_self, mul-le-mul_left}
-use Rattle.std.proofs.lemmas.Bool.{and_parts, or_cases, cases_lt, leb-true, leb-false, ltb-true, eqb-true, lt-leb, le-leb}
+use Rattle.std.proofs.lemmas.Bool.{and_parts, cases_lt, leb-true, leb-false, ltb-true, lt-leb, le-leb}
 use Rattle.std.proofs.lemmas.Bool.Decides.{nat_tests}
 use lib.Signed.{le_z}
 use lib.IntN.{nat_abs}
@@ -15,7 +14,7 @@ use Rattle.bytes_defs.specs.declared.order.Order.TheVariants.{Little}
 use Rattle.bytes_defs.specs.Numbers.{number_at, little_signed_at}
 use Rattle.bytes_defs.proofs.NumberLaws.{signed_at_number}
 use Rattle.image_defs.specs.Ask.{Ask, result_of, check, ◌>>◌}
-use Rattle.image_defs.proofs.Runs.{result_check_true, result_check_false}
+use Rattle.image_defs.proofs.Results.{result_check_true, result_check_false}
 use Rattle.fault_defs.specs.declared.Sort.TheVariants.{BootField}
 use Rattle.fault_defs.specs.declared.What.TheVariants.{BootGeometry}
 use Rattle.fault_defs.specs.declared.Refusal.{Refusal}
@@ -24,6 +23,7 @@ use Rattle.rx_store.specs.declared.read_fault.ReadFault.{ReadFault}
 use Rattle.rx_store.specs.Answers.{Answers}
 use Rattle.rx_store.specs.ReadFaults.{fault_of}
 use Rattle.ntfs_volume_defs.specs.declared.boot.Boot.{Boot}
+use Rattle.ntfs_volume_defs.proofs.OneOf.{one_of_holds}
 use Rattle.ntfs_volume_defs.specs.Boot.{is_boot_sector, is_one_of, is_total, sector_size, sectors_in_cluster, total_sectors, cluster_size, size_of_record, record_size_of, first_mft_cluster, clusters_of, boot_of, boot_at}
 use Rattle.ntfs_boot.specs.Sector.{sector_sizes, cluster_counts, record_sizes, cluster_sizes, placed_boot, sector_boot, IsSoundBoot, IsBootRefusal}
 
@@ -131,19 +131,6 @@ boot_run image at len long =
     (tested image (nat_lt (first_mft_cluster bytes) (clusters_of bytes)) (Damaged BootField (at + 0x30)) _)))))
 
 -- ---- what holds of a volume that is found
-
--- a property of each of some numbers holds of one of them
-abbrev Each : (ℕ → Type 0) → List ℕ → Type 0
-Each P [] = Unit {0}
-Each P (value ∷ values) = P value × Each P values
-
-one_of_holds : (P : ℕ → Type 0) (values : List ℕ) → Each P values → (n : ℕ) → is_one_of values n ≡ true → P n
-one_of_holds P [] each n is = absurd cc
-one_of_holds P (value ∷ values) each n is =
-    ⊎_elim
-    (λ first. subst P (sym (eqb-true n value first)) each.0)
-    (λ later. one_of_holds P values each.1 n later)
-    (or_cases (n == value) (list_any (λ value. n == value) values) is)
 
 is_cluster : (sector sectors : ℕ) → is_one_of sector_sizes sector ≡ true → is_one_of cluster_counts sectors ≡ true → is_one_of cluster_sizes (sector * sectors) ≡ true
 is_cluster sector sectors first second =

@@ -1,9 +1,8 @@
 -- A boot sector that is refused breaks a rule; one that is read breaks none, and its sizes are whole sectors.
-use Rattle.std.specs.Prelude.{◌≡◌, ℕ, ◌+◌, ◌*◌, ◌/◌, ◌%◌, ◌<◌, ◌≤◌, ◌⊎◌, ◌==◌, true, false, nat_le, nat_lt, Err, List, [], ◌∷◌, refl}
-use Rattle.std.specs.List.{list_any}
-use Rattle.std.proofs.Common.{arith, lit≤, ap, sym, ◌∙◌, subst, ⊎_elim, inl, inr}
+use Rattle.std.specs.Prelude.{◌≡◌, ℕ, ◌+◌, ◌*◌, ◌/◌, ◌%◌, ◌<◌, ◌≤◌, ◌⊎◌, true, false, nat_le, nat_lt, Err, List, [], ◌∷◌, refl}
+use Rattle.std.proofs.Common.{arith, lit≤, ap, ◌∙◌, subst, ⊎_elim, inl, inr}
 use Rattle.std.proofs.Math.Nat.{mul-le-mul_left}
-use Rattle.std.proofs.lemmas.Bool.{and_parts, and_cases, or_cases, eqb-true, ltb-true, ltb-false, leb-true, leb-false}
+use Rattle.std.proofs.lemmas.Bool.{and_parts, and_cases, ltb-true, ltb-false, leb-true, leb-false}
 use Rattle.bytes_defs.specs.Bytes.{part}
 use Rattle.image_defs.specs.Ask.{Done, result_of}
 use Rattle.image_defs.proofs.Looks.{check_gives, check_refuses}
@@ -13,25 +12,13 @@ use Rattle.fault_defs.specs.declared.Refusal.{Refusal}
 use Rattle.fault_defs.specs.declared.Refusal.TheVariants.{NotThis, Damaged, Unsupported}
 use Rattle.ntfs_volume_defs.specs.declared.boot.Boot.{Boot}
 use Rattle.ntfs_volume_defs.specs.Boot.{is_boot_sector, is_one_of, is_total, sector_size, sectors_in_cluster, total_sectors, record_size_of, first_mft_cluster, clusters_of, boot_of, boot_at}
+use Rattle.ntfs_volume_defs.proofs.OneOf.{one_of_holds}
 use Rattle.ntfs_damage_defs.specs.Told.{IsToldBy}
 use Rattle.ntfs_damage_defs.specs.Damage.{IsBoot, IsFalseAt, NoSectors, NoFirstCluster}
 use Rattle.ntfs_damage_defs.specs.SlotDamage.{HasWholeSectors}
 use Rattle.ntfs_damage_defs.proofs.Told.{not_given}
 
 -- ---- sizes that are read
-
--- a property of each of some numbers holds of one of them
-abbrev Each : (ℕ → Type 0) → List ℕ → Type 0
-Each P [] = Unit {0}
-Each P (value ∷ values) = P value × Each P values
-
-one_of_holds : (P : ℕ → Type 0) (values : List ℕ) → Each P values → (n : ℕ) → is_one_of values n ≡ true → P n
-one_of_holds P [] each n is = absurd cc
-one_of_holds P (value ∷ values) each n is =
-    ⊎_elim
-    (λ first. subst P (sym (eqb-true n value first)) each.0)
-    (λ later. one_of_holds P values each.1 n later)
-    (or_cases (n == value) (list_any (λ value. n == value) values) is)
 
 record IsWhole (size : ℕ) : Type 0 where
   whole : size % 512 ≡ 0

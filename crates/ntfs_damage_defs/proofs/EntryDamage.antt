@@ -5,7 +5,7 @@ use Rattle.std.specs.Option.{ok_or}
 use Rattle.std.proofs.Common.{arith, ap, sym, ◌∙◌, subst, ⊎_elim}
 use Rattle.std.proofs.lemmas.Bool.{eqb-false, ne_eqb, ltb-true, ltb-false, false≢true}
 use Rattle.image_defs.specs.Ask.{Done, result_of, given, ◌>>=◌}
-use Rattle.image_defs.proofs.Runs.{result_bind_ok, result_given}
+use Rattle.image_defs.proofs.Results.{result_bind_ok, result_given}
 use Rattle.image_defs.proofs.Looks.{bind_gives, check_gives, given_gives, bind_refuses, check_refuses, given_refuses}
 use Rattle.image_defs.specs.Via.{look_bytes, seen_from}
 use Rattle.image_defs.proofs.ViaLaws.{result_look_bytes}

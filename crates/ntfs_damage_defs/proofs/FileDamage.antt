@@ -5,7 +5,7 @@ use Rattle.std.proofs.Common.{ap, sym, ◌∙◌, subst, ⊎_elim, inl, inr}
 use Rattle.std.proofs.lemmas.Bool.{eqb-true, ltb-true}
 use Rattle.std.proofs.lemmas.List.Elements.{All-contains, All-contains_itself, All-filter, filter_passes}
 use Rattle.image_defs.specs.Ask.{Done, result_of, given, each, ◌>>=◌}
-use Rattle.image_defs.specs.Runs.{with_value, in_front_of}
+use Rattle.image_defs.specs.Results.{with_value, in_front_of}
 use Rattle.image_defs.proofs.Looks.{bind_refuses, given_refuses}
 use Rattle.fault_defs.specs.declared.Sort.{Sort}
 use Rattle.fault_defs.specs.declared.Sort.TheVariants.{SegmentGap, Sizes, BadName}

@@ -4,7 +4,7 @@ use Rattle.std.specs.List.{filter}
 use Rattle.std.proofs.Common.{arith, ap, sym, ◌∙◌, subst, ⊎_elim, inl, inr, append_assoc}
 use Rattle.std.proofs.lemmas.Bool.{eqb-true, eqb-false, leb-true, leb-false, or_left, false≢true}
 use Rattle.image_defs.specs.Ask.{Done, result_of, given, ◌>>=◌}
-use Rattle.image_defs.proofs.Runs.{result_bind_ok, result_given}
+use Rattle.image_defs.proofs.Results.{result_bind_ok, result_given}
 use Rattle.image_defs.proofs.Looks.{bind_gives, given_gives, bind_refuses, check_refuses, given_refuses}
 use Rattle.fault_defs.specs.declared.Sort.{Sort}
 use Rattle.fault_defs.specs.declared.Sort.TheVariants.{MftMap, AttributeMissing}

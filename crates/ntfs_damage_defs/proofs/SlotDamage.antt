@@ -7,7 +7,7 @@ use Rattle.std.proofs.lemmas.Bool.{and_parts, and_from, ltb-true, lt-ltb, le-ltb
 use Rattle.std.proofs.lemmas.Slice.Eq.{bytes_eq-Decides}
 use Rattle.bytes_defs.specs.Bytes.{part}
 use Rattle.image_defs.specs.Ask.{Ask, Done, result_of, check, ◌>>◌}
-use Rattle.image_defs.proofs.Runs.{result_bind_err}
+use Rattle.image_defs.proofs.Results.{result_bind_err}
 use Rattle.image_defs.proofs.Looks.{bind_refuses, check_refuses}
 use Rattle.image_defs.specs.Via.{via, seen_from, with_faults}
 use Rattle.image_defs.proofs.ViaLaws.{result_via, result_with_faults}

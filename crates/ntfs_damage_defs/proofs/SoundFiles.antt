@@ -5,7 +5,7 @@ use Rattle.std.proofs.Common.{ap, sym, ◌∙◌, subst, ⊎_elim}
 use Rattle.std.proofs.lemmas.Bool.{eq-eqb, ltb-false, false≢true}
 use Rattle.std.proofs.lemmas.List.Elements.{All-cons, All-nil, All-contains}
 use Rattle.image_defs.specs.Ask.{Done, result_of, given, each, ◌>>=◌}
-use Rattle.image_defs.specs.Runs.{with_value, in_front_of}
+use Rattle.image_defs.specs.Results.{with_value, in_front_of}
 use Rattle.image_defs.proofs.Looks.{bind_gives, given_gives}
 use Rattle.fault_defs.specs.declared.Sort.{Sort}
 use Rattle.fault_defs.specs.declared.Sort.TheVariants.{Sizes, BadName}

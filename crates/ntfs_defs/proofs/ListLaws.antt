@@ -82,19 +82,10 @@ pub record IsDecodedTo (clusters : ℕ) (bytes : List ℕ) (runs : List Run) (ba
   pub whole : decoded_runs clusters bytes
       ≡ behind_runs runs (runs_behind clusters base total (list_from bytes at).runs (list_from bytes at).damage)
 
-behind_runs-none : (rest : Result (List Run) RunFault) → rest ≡ behind_runs [] rest
-behind_runs-none (Ok runs) = refl
-behind_runs-none (Err damage) = refl
-
 behind_runs-append : (runs more : List Run) (rest : Result (List Run) RunFault)
     → behind_runs runs (behind_runs more rest) ≡ behind_runs (runs ++ more) rest
 behind_runs-append runs more (Ok rest) = ap Ok (sym (append_assoc runs more rest))
 behind_runs-append runs more (Err damage) = refl
-
-pub decoding_starts : (clusters : ℕ) (bytes : List ℕ) → IsDecodedTo clusters bytes [] 0 0 0
-decoding_starts clusters bytes = record {
-  whole = behind_runs-none (runs_behind clusters 0 0 (list_from bytes 0).runs (list_from bytes 0).damage);
-}
 
 -- what the walk comes to, by what begins at its place
 decoded_at : (clusters : ℕ) (bytes : List ℕ) (runs : List Run) (base total at : ℕ) (first : Result (Option WrittenRun) RunFault)

@@ -6,7 +6,7 @@ use Rattle.std.proofs.lemmas.Bool.Decides.{nat_tests}
 use Rattle.range_defs.specs.declared.Range.{Range}
 use Rattle.range_defs.specs.Places.{in_range, covers}
 use Rattle.image_defs.specs.Ask.{Ask, result_of, given, each, ◌>>=◌}
-use Rattle.image_defs.proofs.Runs.{result_given}
+use Rattle.image_defs.proofs.Results.{result_given}
 use Rattle.image_defs.specs.Looks.{LooksAt}
 use Rattle.image_defs.proofs.Looks.{looks_done, looks_weaker, looks_bind, looks_bind_ok, looks_check, looks_given, bind_gives, check_gives, given_gives}
 use Rattle.image_defs.specs.Via.{look_bytes}

@@ -9,11 +9,11 @@ use Rattle.std.specs.Option.{ok_or}
 use Rattle.range_defs.specs.declared.Range.{Range}
 use Rattle.range_defs.specs.Places.{in_range, covers}
 use Rattle.image_defs.specs.Ask.{Done, result_of, given, each}
-use Rattle.image_defs.proofs.Runs.{result_given}
+use Rattle.image_defs.proofs.Results.{result_given}
 use Rattle.image_defs.proofs.Looks.{bind_gives, check_gives, given_gives, each_gives}
 use Rattle.ntfs_record_defs.specs.Stored.{stored_place}
 use Rattle.ntfs_record_defs.specs.Attributes.{Opened, content_of, contents}
-use Rattle.ntfs_record_defs.proofs.AttributeLaws.{covers-append}
+use Rattle.range_defs.proofs.RangeLaws.{covers_append}
 use Rattle.ntfs_record_defs.specs.Record.{FileRecord, IsContentPlace}
 use Rattle.fault_defs.specs.declared.Sort.TheVariants.{AttributeMissing}
 use Rattle.fault_defs.specs.declared.Refusal.{Refusal}
@@ -38,7 +38,7 @@ held_in_held : (image : List ℕ) (mft : Mft) (number : ℕ) (found : FileRecord
     → ((i : ℕ) → covers (contents opened) i ≡ true → covers (contents found.attributes) i ≡ true) → All (IsHeldIn image mft) (held_in number found.header.array opened)
 held_in_held image mft number found slot_is [] whole = All-nil (IsHeldIn image mft)
 held_in_held image mft number found slot_is (first ∷ more) whole =
-    let split : (i : ℕ) → covers (contents (first ∷ more)) i ≡ (covers (content_of first.attribute) i || covers (contents more) i) = λ i. covers-append (content_of first.attribute) (contents more) i in
+    let split : (i : ℕ) → covers (contents (first ∷ more)) i ≡ (covers (content_of first.attribute) i || covers (contents more) i) = λ i. covers_append (content_of first.attribute) (contents more) i in
     All-cons (IsHeldIn image mft) (record { slot = number; array = found.header.array; opened = first }) (held_in number found.header.array more)
     (record {
       found = found;

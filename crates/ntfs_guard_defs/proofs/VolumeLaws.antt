@@ -1,10 +1,10 @@
 -- Laws behind VolumeLaws: the law of the footprint of a volume: an image of the same length and with the same bytes in the guard says the same.
 use Rattle.std.specs.Prelude.{◌≡◌, ℕ, zero, suc, ◌+◌, ◌*◌, ◌%◌, ◌<◌, ◌≤◌, ◌==◌, Bool, true, false, nat_lt, nat_le, if◌then◌else◌, Option, Some, None, Result, Ok, Err, List, [], ◌∷◌, length, slice_get, sum_by, refl}
 use Rattle.std.proofs.Common.{arith, ap, sym, ◌∙◌, subst, ⊎_elim}
-use Rattle.std.proofs.lemmas.Bool.{or_cases, eqb-true, leb-true, cases_lt}
+use Rattle.std.proofs.lemmas.Bool.{leb-true, cases_lt}
 use Rattle.std.proofs.lemmas.Bool.Decides.{nat_tests}
 use Rattle.std.proofs.lemmas.Option.{slice_get_past}
-use Rattle.std.specs.List.{filter, list_any}
+use Rattle.std.specs.List.{filter}
 use Rattle.range_defs.specs.declared.Range.{Range}
 use Rattle.range_defs.specs.Places.{in_range, covers}
 use Rattle.bytes_defs.specs.Bytes.{part}
@@ -12,7 +12,7 @@ use Rattle.image_defs.specs.Ask.{Done, result_of, given, each}
 use Rattle.image_defs.specs.Agreement.{AgreeOn}
 use Rattle.image_defs.proofs.Agreement.{result_agree}
 use Rattle.range_defs.proofs.RangeLaws.{longest_ranges_covers}
-use Rattle.image_defs.proofs.Runs.{result_given}
+use Rattle.image_defs.proofs.Results.{result_given}
 use Rattle.image_defs.specs.Looks.{LooksAt}
 use Rattle.image_defs.proofs.Looks.{looks_done, looks_bind_ok, looks_check, looks_look, looks_given, bind_gives, check_gives, given_gives}
 use Rattle.image_defs.specs.Via.{look_bytes}
@@ -22,6 +22,7 @@ use Rattle.ntfs_record_defs.specs.Attributes.{Form, Resident, NonResident}
 use Rattle.ntfs_record_defs.specs.Stored.{count_from}
 use Rattle.ntfs_record_defs.specs.Record.{FileRecord}
 use Rattle.ntfs_volume_defs.specs.declared.boot.Boot.{Boot}
+use Rattle.ntfs_volume_defs.proofs.OneOf.{one_of_holds}
 use Rattle.fault_defs.specs.declared.Sort.TheVariants.{BootField}
 use Rattle.fault_defs.specs.declared.What.TheVariants.{BootGeometry}
 use Rattle.fault_defs.specs.declared.Bound.TheVariants.{AttributeList, Slots, Names, PathBytes, Path, Runs}
@@ -235,11 +236,7 @@ module _ (image : List ℕ) (mft : Mft) (files : List FoundFile) (strides : mft.
 -- ---- the boot sector
 
 strides_of : (number : ℕ) → is_one_of (1024 ∷ 4096 ∷ []) number ≡ true → number % 512 ≡ 0
-strides_of number is =
-    ⊎_elim
-    (λ small. ap (λ n. n % 512) (eqb-true number 1024 small))
-    (λ others. ⊎_elim (λ large. ap (λ n. n % 512) (eqb-true number 4096 large)) (λ none. absurd cc) (or_cases (number == 4096) false others))
-    (or_cases (number == 1024) (list_any (λ value. number == value) (4096 ∷ [])) is)
+strides_of number is = one_of_holds (λ n. n % 512 ≡ 0) (1024 ∷ 4096 ∷ []) (refl, refl, tt) number is
 
 pub record IsBootOf (at : ℕ) (boot : Boot) : Type 0 where
   pub at_is : boot.at ≡ at

@@ -7,8 +7,8 @@ use Rattle.std.proofs.lemmas.Slice.Eq.{bytes_eq-Decides}
 use Rattle.std.specs.Str.{bytes_eq}
 use Rattle.bytes_defs.specs.Bytes.{part}
 use Rattle.image_defs.specs.Ask.{Ask, result_of, each, check, ◌>>◌}
-use Rattle.image_defs.specs.Runs.{with_value}
-use Rattle.image_defs.proofs.Runs.{result_next, result_bind, result_bind_done}
+use Rattle.image_defs.specs.Results.{with_value}
+use Rattle.image_defs.proofs.Results.{result_next, result_bind, result_bind_done}
 use Rattle.image_defs.proofs.ViaLaws.{result_via, seen_at, length_seen}
 use Rattle.ntfs_record_defs.specs.declared.fault.RecordFault.{RecordFault}
 use Rattle.ntfs_record_defs.specs.declared.fault.RecordFault.TheVariants.{NotFile, BadFixup, BadField}

@@ -5,8 +5,8 @@ use Rattle.std.specs.Option.{option_map}
 use Rattle.std.proofs.lemmas.Bool.{lt-leb}
 use Rattle.bytes_defs.specs.Bytes.{part}
 use Rattle.image_defs.specs.Ask.{Ask, Done, result_of, ◌>>=◌}
-use Rattle.image_defs.specs.Runs.{with_value}
-use Rattle.image_defs.proofs.Runs.{result_next, result_bind, result_bind_ok, result_bind_err, result_check_false}
+use Rattle.image_defs.specs.Results.{with_value}
+use Rattle.image_defs.proofs.Results.{result_next, result_bind, result_bind_ok, result_bind_err, result_check_false}
 use Rattle.bytes_defs.specs.declared.order.Order.TheVariants.{Little}
 use Rattle.bytes_defs.specs.Numbers.{little_at}
 use Rattle.bytes_defs.proofs.NumberLaws.{number_at_part}

@@ -4,8 +4,8 @@ use Rattle.std.specs.Prelude.{not}
 use Rattle.std.specs.Str.{bytes_eq}
 use Rattle.bytes_defs.specs.Bytes.{part}
 use Rattle.image_defs.specs.Ask.{result_of, each, check}
-use Rattle.image_defs.specs.Runs.{with_value}
-use Rattle.image_defs.proofs.Runs.{result_bind_ok, result_bind_err, result_bind_done}
+use Rattle.image_defs.specs.Results.{with_value}
+use Rattle.image_defs.proofs.Results.{result_bind_ok, result_bind_err, result_bind_done}
 use Rattle.ntfs_record_defs.specs.declared.fault.RecordFault.{RecordFault}
 use Rattle.ntfs_record_defs.specs.declared.fault.RecordFault.TheVariants.{BadFixup}
 use Rattle.ntfs_record_defs.specs.Stored.{count_from, ends_with}

@@ -2,7 +2,7 @@
 use Rattle.std.proofs.Common.{◌≡◌, ℕ, List, [], ◌∷◌, Some, None, Result, Ok, Err, ap, ◌∙◌, subst, refl}
 use Rattle.std.specs.Prelude.{IsOk, map}
 use Rattle.image_defs.specs.Ask.{result_of}
-use Rattle.image_defs.specs.Runs.{with_value}
+use Rattle.image_defs.specs.Results.{with_value}
 use Rattle.ntfs_record_defs.specs.declared.fault.RecordFault.{RecordFault}
 use Rattle.ntfs_record_defs.specs.Attributes.{Opened, attributes_from}
 use Rattle.ntfs_record_defs.specs.Record.{header_of}

@@ -4,6 +4,7 @@ use Rattle.std.proofs.Common.{arith, lit≤, ap, sym, ◌∙◌, subst, inl, inr
 use Rattle.std.proofs.lemmas.Bool.{and_parts, or_cases, or_from, leb-true, eqb-true}
 use Rattle.std.proofs.lemmas.Bool.Decides.{nat_tests}
 use Rattle.range_defs.specs.declared.Range.{Range}
+use Rattle.range_defs.proofs.RangeLaws.{covers_append}
 use Rattle.range_defs.specs.Places.{in_range, covers}
 use Rattle.bytes_defs.specs.Bytes.{part}
 use Rattle.image_defs.specs.Ask.{Ask, Done, result_of, ◌>>=◌}
@@ -162,12 +163,8 @@ outside_content attribute i out = by_kind (is_content attribute)
 no_content : (attribute : Attribute) (i : ℕ) → is_content attribute ≡ false → covers (content_of attribute) i ≡ false
 no_content attribute i is = rw is refl
 
-pub covers-append : (a b : List Range) (i : ℕ) → covers (a ++ b) i ≡ (covers a i || covers b i)
-covers-append [] b i = refl
-covers-append (range ∷ a) b i = grind (arith, nat_tests, covers-append a b i)
-
 in_neither : (a b : List Range) (i : ℕ) → covers a i ≡ false → covers b i ≡ false → covers (a ++ b) i ≡ false
-in_neither a b i first second = covers-append a b i ∙ or_from (covers a i) (covers b i) first second
+in_neither a b i first second = covers_append a b i ∙ or_from (covers a i) (covers b i) first second
 
 -- ---- the attributes
 
@@ -204,7 +201,7 @@ module _ (image : List ℕ) (used at header : ℕ) (first : Opened) (more : List
       ⊎_elim
       (λ own. let lies = inside_content first.attribute i own in (omega (arith, lies.0, laid.behind_header), omega (arith, lies.1, laid.body_inside, laid.inside)))
       (λ later. let lies = rest i later in (omega (arith, lies.0, laid.begins), lies.1))
-      (or_cases (covers (content_of first.attribute) i) (covers (contents more) i) (sym (covers-append (content_of first.attribute) (contents more) i) ∙ covered))
+      (or_cases (covers (content_of first.attribute) i) (covers (contents more) i) (sym (covers_append (content_of first.attribute) (contents more) i) ∙ covered))
 
   in_front : (i : ℕ) → (i < (body_of first.attribute.form).at) ⊎ ((body_of first.attribute.form).at + (body_of first.attribute.form).len ≤ i) → i < at + first.attribute.len
       → covers (contents (first ∷ more)) i ≡ false

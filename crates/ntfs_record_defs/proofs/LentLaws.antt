@@ -6,8 +6,8 @@ use Rattle.std.proofs.lemmas.Bool.{leb-true}
 use Rattle.std.proofs.lemmas.List.{length-take}
 use Rattle.bytes_defs.specs.Bytes.{part}
 use Rattle.image_defs.specs.Ask.{Ask, Done, result_of, look, check, ◌>>=◌, ◌>>◌}
-use Rattle.image_defs.specs.Runs.{with_value}
-use Rattle.image_defs.proofs.Runs.{result_bind_done}
+use Rattle.image_defs.specs.Results.{with_value}
+use Rattle.image_defs.proofs.Results.{result_bind_done}
 use Rattle.image_defs.proofs.Looks.{bind_gives, check_gives}
 use Rattle.bytes_defs.specs.declared.order.Order.TheVariants.{Little}
 use Rattle.bytes_defs.proofs.NumberLaws.{number_at_part}

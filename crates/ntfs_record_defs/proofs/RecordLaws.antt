@@ -2,7 +2,7 @@
 use Rattle.std.specs.Prelude.{◌≡◌, ℕ, ◌+◌, ◌*◌, ◌/◌, ◌%◌, ◌<◌, ◌≤◌, ◌==◌, ◌&&◌, true, nat_le, Option, Some, Ok, List, length, slice_get, refl}
 use Rattle.std.proofs.Common.{arith, ap, sym, ◌∙◌, subst}
 use Rattle.std.proofs.lemmas.Bool.{and_parts, leb-true, both_ways}
-use Rattle.image_defs.proofs.Runs.{visits_check}
+use Rattle.image_defs.proofs.Results.{visits_check}
 use Rattle.std.specs.Str.{bytes_eq}
 use Rattle.range_defs.specs.declared.Range.{Range}
 use Rattle.range_defs.specs.Places.{covers}

@@ -2,7 +2,7 @@
 use Rattle.std.specs.Prelude.{◌≡◌, ℕ, zero, suc, ◌+◌, ◌-◌, ◌*◌, ◌/◌, ◌%◌, Result, Ok, Err, List, [], ◌∷◌, ◌++◌, length, map, replicate, take, drop, refl}
 use Rattle.bytes_defs.specs.Bytes.{part}
 use Rattle.image_defs.specs.Ask.{result_of}
-use Rattle.image_defs.specs.Runs.{with_value}
+use Rattle.image_defs.specs.Results.{with_value}
 use Rattle.image_defs.specs.Via.{via, look_bytes, seen_from}
 use Rattle.bytes_defs.specs.Numbers.{number_at}
 use Rattle.ntfs_record_defs.specs.declared.fault.RecordFault.{RecordFault}

@@ -1,2 +1,4 @@
+pub mod OneOf
+pub mod TreeFiles
 pub mod VolumeRows
 mod TimesRows

@@ -6,7 +6,7 @@ use Rattle.std.specs.Int.Count.{ones}
 use Rattle.bytes_defs.specs.Bytes.{part}
 use Rattle.bytes_defs.specs.Numbers.{number_at}
 use Rattle.image_defs.specs.Ask.{result_of}
-use Rattle.image_defs.specs.Runs.{with_value}
+use Rattle.image_defs.specs.Results.{with_value}
 use Rattle.image_defs.specs.Via.{via, look_bytes}
 use Rattle.order_defs.specs.Sorted.{sorted_by_order}
 use Rattle.ntfs_record_defs.specs.Stored.{stored_place}
@@ -20,7 +20,7 @@ use Rattle.ntfs_volume_defs.specs.Slots.{Mft, slot_place, is_whole, stored_slot,
 use Rattle.ntfs_volume_defs.specs.Files.{FoundFile, file_of}
 use Rattle.ntfs_volume_defs.specs.Parts.{parts_of}
 use Rattle.ntfs_volume_defs.specs.Paths.{paths_of}
-use Rattle.ntfs_volume_defs.specs.TreeFiles.{tree_file}
+use Rattle.ntfs_volume_defs.proofs.TreeFiles.{tree_file}
 
 -- a record of two links whose one attribute is $STANDARD_INFORMATION: made when 1970 began, modified one tick before, changed
 -- when 1601 began, and read 1,700,000,000 seconds after 1970 began

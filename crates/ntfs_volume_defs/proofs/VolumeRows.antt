@@ -4,7 +4,7 @@ use Rattle.std.specs.Int.Count.{ones}
 use Rattle.range_defs.specs.Places.{longest_ranges}
 use Rattle.bytes_defs.specs.Bytes.{part}
 use Rattle.image_defs.specs.Ask.{result_of}
-use Rattle.image_defs.specs.Runs.{with_value}
+use Rattle.image_defs.specs.Results.{with_value}
 use Rattle.image_defs.specs.Via.{via, look_bytes}
 use Rattle.bytes_defs.specs.Numbers.{number_at, signed_at}
 use Rattle.rx_ranges.specs.declared.pieces.Piece.{Piece}

@@ -9,6 +9,5 @@ pub mod Times
 pub mod Parts
 pub mod Files
 pub mod Paths
-pub mod TreeFiles
 pub mod Guard
 pub mod Volume

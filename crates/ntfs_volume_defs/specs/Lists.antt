@@ -5,7 +5,7 @@ use Rattle.std.specs.Option.{ok_or}
 use Rattle.range_defs.specs.declared.Range.{Range}
 use Rattle.bytes_defs.specs.Bytes.{part}
 use Rattle.image_defs.specs.Ask.{Ask, Done, check, given, ◌>>=◌, ◌>>◌}
-use Rattle.image_defs.specs.Runs.{with_value}
+use Rattle.image_defs.specs.Results.{with_value}
 use Rattle.image_defs.specs.Via.{look_bytes}
 use Rattle.bytes_defs.specs.Numbers.{little_at}
 use Rattle.ntfs_record_defs.specs.Attributes.{Form, Resident, NonResident, Opened}

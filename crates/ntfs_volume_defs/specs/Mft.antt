@@ -3,7 +3,7 @@ use Rattle.std.specs.Prelude.{ℕ, ◌+◌, ◌*◌, Bool, true, false, ◌&&◌
 use Rattle.std.specs.List.{filter}
 use Rattle.std.specs.Option.{ok_or}
 use Rattle.image_defs.specs.Ask.{Ask, Done, Stop, check, given, ◌>>=◌, ◌>>◌}
-use Rattle.image_defs.specs.Runs.{with_value}
+use Rattle.image_defs.specs.Results.{with_value}
 use Rattle.ntfs_defs.specs.declared.runs.Run.{Run}
 use Rattle.ntfs_record_defs.specs.Record.{FileRecord}
 use Rattle.ntfs_volume_defs.specs.declared.boot.Boot.{Boot}

@@ -2,7 +2,7 @@
 use Rattle.std.specs.Prelude.{ℕ, zero, suc, ◌+◌, ◌*◌, ◌/◌, Bool, not, ◌&&◌, ◌==◌, nat_le, nat_lt, if◌then◌else◌, Result, Ok, Err, List, [], ◌∷◌, length, slice_index}
 use Rattle.std.specs.List.{filter}
 use Rattle.bytes_defs.specs.Numbers.{little_at}
-use Rattle.image_defs.specs.Runs.{with_value}
+use Rattle.image_defs.specs.Results.{with_value}
 use Rattle.name_defs.specs.Texts.{units_text}
 use Rattle.fault_defs.specs.declared.Sort.TheVariants.{BadName}
 use Rattle.fault_defs.specs.declared.Refusal.{Refusal}

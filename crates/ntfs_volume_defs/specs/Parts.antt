@@ -3,7 +3,7 @@ use Rattle.std.specs.Prelude.{ℕ, zero, suc, ◌+◌, ◌-◌, ◌*◌, ◌/◌
 use Rattle.std.specs.List.{filter, list_any}
 use Rattle.range_defs.specs.declared.Range.{Range}
 use Rattle.range_defs.specs.Places.{covers, longest_ranges}
-use Rattle.image_defs.specs.Runs.{in_front_of}
+use Rattle.image_defs.specs.Results.{in_front_of}
 use Rattle.name_defs.specs.Texts.{units_text}
 use Rattle.rx_ranges.specs.declared.pieces.Piece.{Piece}
 use Rattle.rx_ranges.specs.declared.pieces.PieceKind.{PieceKind}

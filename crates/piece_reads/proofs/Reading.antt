@@ -21,11 +21,6 @@ within_at size (piece ∷ pieces) (suc i) d inside within = within_at size piece
 pub record IsRead (pieces : List Piece) (image : List ℕ) (from : ℕ) (buf : List ℕ) (done skip i : ℕ) : Type 0 where
   pub whole : take done buf ++ part (bytes_through image (drop i pieces)) skip (length buf - done) ≡ part (bytes_through image pieces) from (length buf)
 
-pub read_starts : (pieces : List Piece) (image : List ℕ) (from : ℕ) (buf : List ℕ) → IsRead pieces image from buf 0 from 0
-read_starts pieces image from buf = record {
-  whole = let same : length buf - 0 ≡ length buf = omega arith in ap (part (bytes_through image pieces) from) same;
-}
-
 bytes_from : (pieces : List Piece) (image : List ℕ) (i : ℕ) (d : Piece) → i < length pieces
     → bytes_through image (drop i pieces) ≡ bytes_of_kind image (get_or pieces i d).kind (get_or pieces i d).at (get_or pieces i d).len ++ bytes_through image (drop (i + 1) pieces)
 bytes_from pieces image i d inside = ap (bytes_through image) (drop_more pieces i d inside)
@@ -101,10 +96,6 @@ read_ends pieces image from size buf done skip i past few cover within fits read
 
 within_image : (image : List ℕ) (size : ℕ) (pieces : List Piece) → length image ≡ size → AreWithin size pieces → AreWithin (length image) pieces
 within_image image size pieces same within = let P : ℕ → Type 0 = λ n. AreWithin n pieces in subst P (sym same) within
-
-pub starts_told : (told : Option (List ℕ)) (pieces : List Piece) (from : ℕ) (buf : List ℕ) → IfSome told (λ image. IsRead pieces image from buf 0 from 0)
-starts_told None pieces from buf = tt
-starts_told (Some image) pieces from buf = read_starts pieces image from buf
 
 pub skips_told : (told : Option (List ℕ)) (size : ℕ) (pieces : List Piece) (from : ℕ) (buf : List ℕ) (done skip i : ℕ) (d : Piece) → IfSome told (λ image. length image ≡ size) → i < length pieces → AreWithin size pieces
     → (get_or pieces i d).len ≤ skip → IfSome told (λ image. IsRead pieces image from buf done skip i) → IfSome told (λ image. IsRead pieces image from buf done (skip - (get_or pieces i d).len) (i + 1))

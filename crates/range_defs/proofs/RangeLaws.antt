@@ -1,9 +1,9 @@
 -- Laws on sets of places. Ranges are claims of one paint, so the canonical list of a set is the one list of the longest
 -- ranges, and the only one.
-use Rattle.std.proofs.Common.{◌≡◌, ℕ, zero, suc, ◌+◌, ◌<◌, ◌≤◌, Bool, true, false, ◌||◌, cond, Option, Some, None, is_some, List, [], ◌∷◌, map, refl, sym, ◌∙◌, ap, subst, arith}
+use Rattle.std.proofs.Common.{◌≡◌, ℕ, zero, suc, ◌+◌, ◌<◌, ◌≤◌, Bool, true, false, ◌||◌, cond, Option, Some, None, is_some, List, [], ◌∷◌, ◌++◌, map, refl, sym, ◌∙◌, ap, subst, arith}
 use Rattle.std.specs.List.{All}
 use Rattle.std.proofs.lemmas.List.Elements.{All-head, All-tail, All-map, All-same}
-use Rattle.std.proofs.lemmas.Bool.{cond_both}
+use Rattle.std.proofs.lemmas.Bool.{cond_both, or_right}
 use Rattle.std.proofs.lemmas.Bool.Decides.{nat_tests}
 use Rattle.range_defs.specs.declared.Range.{Range}
 use Rattle.range_defs.specs.declared.Claim.{Claim}
@@ -16,6 +16,17 @@ use Rattle.range_defs.proofs.ClaimLaws.{longest-covers, longest_claims_kept, lon
 -- a range ends at most at this byte
 abbrev pub EndsBy : ℕ → Range → Type 0
 EndsBy end range = range.at + range.len ≤ end
+
+-- a byte lies in one list behind another where it lies in one of the two
+pub covers_append : (ranges others : List Range) (byte : ℕ) → covers (ranges ++ others) byte ≡ (covers ranges byte || covers others byte)
+covers_append [] others byte = refl
+covers_append (range ∷ ranges) others byte = grind (arith, nat_tests, covers_append ranges others byte)
+
+pub covers_front : (ranges others : List Range) (byte : ℕ) → covers ranges byte ≡ true → covers (ranges ++ others) byte ≡ true
+covers_front ranges others byte covered = covers_append ranges others byte ∙ ap (λ first. first || covers others byte) covered
+
+pub covers_back : (ranges others : List Range) (byte : ℕ) → covers others byte ≡ true → covers (ranges ++ others) byte ≡ true
+covers_back ranges others byte covered = covers_append ranges others byte ∙ or_right (covers ranges byte) (covers others byte) covered
 
 -- ranges that end by a byte have none from there on
 pub covers-past : (end byte : ℕ) (ranges : List Range) → All (EndsBy end) ranges → end ≤ byte → covers ranges byte ≡ false

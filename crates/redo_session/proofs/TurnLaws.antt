@@ -1,5 +1,5 @@
 -- Laws of sessions, turn after turn.
-use Rattle.std.proofs.Common.{◌≡◌, ℕ, suc, ◌+◌, ◌≤◌, Option, None, Some, IfSome, Ok, Err, List, [], ◌∷◌, length, take, slice_get, sym, ◌∙◌, ap, subst, arith}
+use Rattle.std.proofs.Common.{◌≡◌, ℕ, suc, ◌+◌, ◌-◌, ◌≤◌, Option, None, Some, IfSome, Ok, Err, List, [], ◌∷◌, length, take, slice_get, sym, ◌∙◌, ap, subst, arith}
 use Rattle.disk_defs.specs.Story.{Change, Write, Cut, Sync}
 use Rattle.disk_defs.specs.Count.{Faults}
 use Rattle.disk_defs.specs.declared.Area.TheVariants.{Image, Journal}
@@ -8,7 +8,23 @@ use Rattle.session_defs.specs.Script.{Call, changes_of}
 use Rattle.session_defs.specs.Session.{SessionValue, Stage, Running, Ended, HasSizes, IsMade, IsTurned, IsStopped, IsLeft, IsAnswer, IsTurnCounted, IsChangeCounted, idle_answer, calls_of, next_call, call_at_stage}
 use Rattle.session_defs.specs.declared.Turn.{Turn}
 use Rattle.session_defs.specs.declared.TurnFault.{TurnFault}
-use Rattle.redo_session.specs.Sessions.{IsUnderWay}
+
+-- how many turns a session has left: one for each call, and the one that finishes it
+abbrev pub turns_at : Stage → ℕ → ℕ
+turns_at Running calls = calls + 1
+turns_at Ended calls = 0
+
+abbrev pub turns_left : SessionValue → ℕ
+turns_left session = turns_at session.stage (length (calls_of session.plan session.start) - session.made)
+
+-- A session under way, which began so with a store in this state: the calls that it has made are the first of its calls, and no
+-- call is left where it is over.
+pub record IsUnderWay (first : SessionValue) (entry : State) (session : SessionValue) (state : State) : Type 0 where
+  pub plan : session.plan ≡ first.plan
+  pub start : session.start ≡ first.start
+  pub made : state ≡ state_after_all (take session.made (changes_of (calls_of first.plan first.start))) entry
+  pub whole : session.stage ≡ Ended → length (calls_of first.plan first.start) ≤ session.made
+  pub sizes : HasSizes session state
 
 -- one more change of a list
 one_more_change : (calls : List Call) (made : ℕ) (call : Call) (first : State) → slice_get calls made ≡ Some call

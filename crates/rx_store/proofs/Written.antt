@@ -5,11 +5,11 @@ use Rattle.std.proofs.lemmas.List.Elements.{All-head, All-tail}
 use Rattle.std.proofs.lemmas.Grind.{common_steps}
 use Rattle.bytes_defs.specs.Bytes.{part}
 use Rattle.disk_defs.specs.Story.{Held, Story, Change, Event, overwritten, Made, and_then}
-use Rattle.disk_defs.specs.Disk.{MayChange, state_told, state_after}
+use Rattle.disk_defs.specs.Disk.{state_told, state_after}
 use Rattle.disk_defs.specs.Memory.{StoreInMemory, state_in_memory, IsRefused, has_room}
 use Rattle.disk_defs.specs.Count.{one_more}
 use Rattle.disk_defs.proofs.StreamLaws.{on_err}
-use Rattle.disk_defs.proofs.StoryLaws.{state_told_after}
+use Rattle.disk_defs.proofs.StoryLaws.{MayChange, state_told_after}
 use Rattle.disk_defs.specs.declared.Area.{Area}
 use Rattle.disk_defs.specs.Story as story
 use Rattle.rx_store.proofs.Taken.{take-length-drop}

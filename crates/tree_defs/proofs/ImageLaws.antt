@@ -5,7 +5,7 @@ use Rattle.std.proofs.lemmas.Bool.Decides.{nat_tests}
 use Rattle.range_defs.specs.declared.Range.{Range}
 use Rattle.range_defs.specs.declared.TheConstants.{LONGEST_IMAGE}
 use Rattle.image_defs.specs.Ask.{result_of}
-use Rattle.image_defs.specs.Runs.{with_value}
+use Rattle.image_defs.specs.Results.{with_value}
 use Rattle.rx_tree.specs.TreeValue.{TreeValue}
 use Rattle.fault_defs.specs.declared.Refusal.{Refusal}
 use Rattle.fault_defs.specs.declared.Refusal.TheVariants.{Limit}

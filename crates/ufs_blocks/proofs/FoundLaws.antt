@@ -8,8 +8,8 @@ use Rattle.range_defs.specs.declared.TheConstants.{LONGEST_IMAGE}
 use Rattle.range_defs.specs.Places.{covers, IsRangeList, longest_ranges}
 use Rattle.range_defs.proofs.RangeLaws.{covers-past, ends_where_covered, same_as_longest_ranges}
 use Rattle.image_defs.specs.Ask.{visits}
-use Rattle.image_defs.specs.Runs.{with_value}
-use Rattle.image_defs.proofs.Runs.{result_check_true}
+use Rattle.image_defs.specs.Results.{with_value}
+use Rattle.image_defs.proofs.Results.{result_check_true}
 use Rattle.image_reads.specs.Steps.{ReadsAs, KeptWithin, SameBytes}
 use Rattle.fault_defs.specs.declared.Refusal.TheVariants.{Limit}
 use Rattle.fault_defs.specs.declared.Bound.TheVariants.{Image}

@@ -11,7 +11,8 @@ use Rattle.bytes_defs.specs.Numbers.{number_at, signed_at, bytes_of_width}
 use Rattle.bytes_defs.specs.declared.order.Order.{Order}
 use Rattle.bytes_defs.proofs.NumberLaws.{signed_at_number, number_at_part}
 use Rattle.image_defs.specs.Ask.{Ask, Done, Stop, look, ◌>>=◌}
-use Rattle.image_reads.specs.Steps.{IsCome, ReadsAs, KeptWithin}
+use Rattle.image_reads.specs.Steps.{ReadsAs, KeptWithin}
+use Rattle.image_reads.proofs.Coming.{IsCome}
 use Rattle.image_defs.specs.Through.{through}
 use Rattle.image_reads.proofs.Steps.{begins, comes_to, comes_value, comes_done, comes_stop, nothing_says, through_value, through_fault, through_ends, ends_with}
 use Rattle.rx_store.specs.Answers.{Answers}

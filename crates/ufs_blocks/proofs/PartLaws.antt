@@ -5,7 +5,8 @@ use Rattle.range_defs.specs.declared.Range.{Range}
 use Rattle.range_defs.specs.Places.{covers, IsRangeList}
 use Rattle.range_defs.proofs.RangeLaws.{same_range_list}
 use Rattle.image_defs.specs.Ask.{Ask, Done, ◌>>=◌}
-use Rattle.image_reads.specs.Steps.{IsCome, ReadsAs}
+use Rattle.image_reads.specs.Steps.{ReadsAs}
+use Rattle.image_reads.proofs.Coming.{IsCome}
 use Rattle.image_defs.specs.Through.{through}
 use Rattle.image_reads.proofs.Steps.{begins, comes_to, comes_value, comes_fault, comes_done, comes_rest, ends_with}
 use Rattle.rx_store.specs.declared.read_fault.ReadFault.{ReadFault}
@@ -18,8 +19,8 @@ use Rattle.ufs_inode_defs.specs.Stream.{content_stream, extended_stream}
 use Rattle.ufs_inode_defs.specs.Blocks.{Laid, runs_of, stream_blocks}
 use Rattle.ufs_inode_defs.specs.declared.superblock.Super.{Super}
 use Rattle.ufs_inode_defs.specs.declared.inode.Inode.{Inode}
-use Rattle.ufs_volume_defs.specs.Files.{Section, Parted, with_part, section_part, kind_of, sections_by, sections_of, inode_parts}
-use Rattle.ufs_blocks.specs.Sections.{has_parts, has_content, has_extended, content_section, extended_section, extended_list}
+use Rattle.ufs_volume_defs.specs.Files.{Section, Parted, with_part, section_part, kind_of, sections_by, sections_of, inode_parts, content_section, extended_section}
+use Rattle.ufs_blocks.specs.Sections.{has_parts, has_content, has_extended, extended_list}
 use Rattle.ufs_blocks.specs.UnderWay.{Settles}
 use Rattle.ufs_blocks.proofs.DirectLaws.{fault_settles}
 use Rattle.ufs_blocks.proofs.WayLaws.{settles_as}

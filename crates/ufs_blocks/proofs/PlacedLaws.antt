@@ -8,9 +8,9 @@ use Rattle.ufs_inode_defs.specs.Stream.{content_stream, extended_stream}
 use Rattle.ufs_inode_defs.specs.Blocks.{Laid}
 use Rattle.ufs_inode_defs.specs.declared.superblock.Super.{Super}
 use Rattle.ufs_inode_defs.specs.declared.inode.Inode.{Inode}
-use Rattle.ufs_volume_defs.specs.Files.{Section, Parted, sections_of}
+use Rattle.ufs_volume_defs.specs.Files.{Section, Parted, sections_of, content_section, extended_section}
 use Rattle.ufs_blocks.specs.Placed.{IsPartOf, ArePartsOf, AreExtendedBy}
-use Rattle.ufs_blocks.specs.Sections.{has_content, has_extended, content_section, extended_section, extended_list}
+use Rattle.ufs_blocks.specs.Sections.{has_content, has_extended, extended_list}
 use Rattle.ufs_blocks.proofs.PartLaws.{sections_none, sections_some}
 
 -- what was found of a stream, as a part

@@ -1,10 +1,10 @@
 -- The streams of an inode, at each exit of the reader.
 use Rattle.std.specs.Prelude.{◌≡◌, ℕ, zero, suc, ◌+◌, ◌*◌, ◌<◌, ◌≤◌, min, ℤ, pos, true, IsErr, IsErrAnd, Option, Some, None, IfSome, Result, Ok, Err, List, [], ◌∷◌, length, drop, get_or, refl}
 use Rattle.std.proofs.Common.{arith, ap, sym, ◌∙◌, subst, inl, inr, ⊎_elim, drop-cons, drop_of_length-le}
-use Rattle.std.proofs.lemmas.List.Elements.{All-nil}
 use Rattle.range_defs.specs.declared.Range.{Range}
 use Rattle.image_defs.specs.Ask.{Ask, Done, result_of, ◌>>=◌}
-use Rattle.image_reads.specs.Steps.{IsCome, ReadsAs}
+use Rattle.image_reads.specs.Steps.{ReadsAs}
+use Rattle.image_reads.proofs.Coming.{IsCome}
 use Rattle.image_defs.specs.Through.{through}
 use Rattle.image_reads.proofs.Steps.{begins, comes_to, comes_value, comes_fault, comes_done, ends_with}
 use Rattle.piece_defs.specs.Covering.{covers_from}
@@ -13,7 +13,7 @@ use Rattle.fault_defs.specs.declared.Refusal.{Refusal}
 use Rattle.ufs_inode_defs.specs.Superblock.{wrong_field, block_size}
 use Rattle.ufs_inode_defs.specs.Inode.{sound_inode}
 use Rattle.ufs_inode_defs.specs.Stream.{Pointer, pointers_from, span, block_count, content_stream, extended_stream}
-use Rattle.ufs_inode_defs.specs.Blocks.{Laid, most_runs, none_laid, mapped_blocks, rising_blocks, stream_blocks}
+use Rattle.ufs_inode_defs.specs.Blocks.{Laid, none_laid, mapped_blocks, rising_blocks, stream_blocks}
 use Rattle.ufs_inode_defs.specs.BlockPlace.{AreStreamPieces, slack_of}
 use Rattle.ufs_inode_defs.specs.declared.superblock.Super.{Super}
 use Rattle.ufs_inode_defs.specs.declared.inode.Inode.{Inode}
@@ -171,18 +171,6 @@ pub short_stream : (sup : Super) (size : ℕ) (direct found : List Pointer) (run
 short_stream sup size direct found runs long none laid same is_long is_none settled = stream_is sup size direct [] found runs long none same is_long is_none ∙ ap (λ ask. ask >>= (λ laid. rising_blocks 1 sup size laid [])) settled
 
 -- ---- a walk over a whole stream
-
-pub none_way : (sup : Super) (size runs : ℕ) → runs ≤ most_runs → IsUnderWay sup size (none_laid runs)
-none_way sup size runs few = record {
-  few = omega (arith, few);
-  covered = let none : min (0 * block_size sup) size ≡ 0 = omega arith in ap (λ end. covers_from 0 end []) none;
-  plain = All-nil _;
-  within = All-nil _;
-  blocks_lie_within = record { lies = λ index at is. absurd cc };
-  slack_within = All-nil _;
-  ended = λ ahead. refl;
-  kept = tt;
-}
 
 pub all_covered : (sup : Super) (size : ℕ) (laid : Laid) → wrong_field sup ≡ None → IsUnderWay sup size laid → block_count sup size ≤ laid.block → covers_from 0 size laid.pieces ≡ true
 all_covered sup size laid sound way past =

@@ -1,12 +1,11 @@
 -- The parts that an inode has.
-use Rattle.std.specs.Prelude.{◌≡◌, ◌⊎◌, Bool, not, ◌&&◌, ◌||◌, ◌==◌, codes, if◌then◌else◌, List, [], ◌∷◌}
+use Rattle.std.specs.Prelude.{◌≡◌, ◌⊎◌, Bool, not, ◌&&◌, ◌||◌, ◌==◌, if◌then◌else◌, List, [], ◌∷◌}
 use Rattle.rx_tree.specs.PartValue.{PartValue}
 use Rattle.rx_tree.specs.declared.part.Role.TheVariants as roles
 use Rattle.ufs_inode_defs.specs.Inode.{is_directory, is_file, is_link, is_short_link}
-use Rattle.ufs_inode_defs.specs.Stream.{content_stream, extended_stream}
 use Rattle.ufs_inode_defs.specs.declared.superblock.Super.{Super}
 use Rattle.ufs_inode_defs.specs.declared.inode.Inode.{Inode}
-use Rattle.ufs_volume_defs.specs.Files.{Section}
+use Rattle.ufs_volume_defs.specs.Files.{Section, extended_section}
 
 -- devices, pipes and sockets have no parts
 abbrev pub has_parts : Inode → Bool
@@ -18,12 +17,6 @@ has_content sup inode = has_parts inode && not (is_short_link sup inode)
 
 abbrev pub has_extended : Inode → Bool
 has_extended inode = has_parts inode && not (inode.extsize == 0)
-
-abbrev pub content_section : Super → Inode → Section
-content_section sup inode = record { role = roles.Content; name = []; stream = content_stream sup inode }
-
-abbrev pub extended_section : Inode → Section
-extended_section inode = record { role = roles.Other; name = codes "ext"; stream = extended_stream inode }
 
 -- the extended area, where an inode has one
 abbrev pub extended_list : Inode → List Section

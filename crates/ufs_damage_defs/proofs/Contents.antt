@@ -23,10 +23,9 @@ use Rattle.ufs_inode_defs.proofs.SoundSuper.{is_sound, has_pointers}
 use Rattle.ufs_inode_defs.proofs.StreamLaws.{stream_law}
 use Rattle.ufs_volume_defs.specs.Directory.{Entry}
 use Rattle.ufs_volume_defs.specs.Names.{Block, directory_blocks}
-use Rattle.rx_tree.specs.declared.part.Role.TheVariants.{Content}
 use Rattle.rx_tree.specs.declared.file.Kind.TheVariants.{File, Dir, Link, Other}
 use Rattle.ufs_inode_defs.specs.Inode.{is_file}
-use Rattle.ufs_volume_defs.specs.Files.{Section, content_sections, extended_sections, sections_by, sections_of}
+use Rattle.ufs_volume_defs.specs.Files.{content_sections, extended_sections, sections_by, sections_of, content_section}
 use Rattle.ufs_damage_defs.specs.Damage.{block_bytes, IsGoodDirectory}
 use Rattle.ufs_damage_defs.proofs.StreamStops.{stream_sound}
 use Rattle.ufs_damage_defs.proofs.DirectoryLaws.{AreRising, AreBlocks, blocks_are}
@@ -79,12 +78,9 @@ module _ (image : List ℕ) (sup : Super) (sound : wrong_field sup ≡ None) whe
 
 -- ---- the content is a part of a directory
 
-abbrev pub content_part : Super → Inode → Section
-content_part sup inode = record { role = Content; name = []; stream = content_stream sup inode }
-
-pub content_section : (sup : Super) (inode : Inode) → is_directory inode ≡ true → Contains (sections_of sup inode) (content_part sup inode)
+pub directory_content : (sup : Super) (inode : Inode) → is_directory inode ≡ true → Contains (sections_of sup inode) (content_section sup inode)
 unfolding sections_of
-content_section sup inode is =
+directory_content sup inode is =
     let link : is_link inode ≡ false = no_link (type_bits inode) ((Decides-eqb (type_bits inode) 0x4000).0 is) in
     by_kind (is_directory inode) is (Contains-append_left (content_sections sup inode) (extended_sections inode) _ (by_link (is_link inode) link))
   where
@@ -92,11 +88,11 @@ content_section sup inode is =
     no_link bits same = ap (λ n. n == 0xA000) same
 
     by_link : (link : Bool) → link ≡ false
-        → Contains (if link && nat_lt inode.size (layout_of sup.version).short_link then [] else (content_part sup inode ∷ [])) (content_part sup inode)
+        → Contains (if link && nat_lt inode.size (layout_of sup.version).short_link then [] else (content_section sup inode ∷ [])) (content_section sup inode)
     by_link true same = absurd cc
-    by_link false same = in_head (content_part sup inode) []
+    by_link false same = in_head (content_section sup inode) []
 
-    by_kind : (directory : Bool) → directory ≡ true → Contains (content_sections sup inode ++ extended_sections inode) (content_part sup inode)
-        → Contains (sections_by (if directory then Dir else (if is_file inode then File else (if is_link inode then Link else Other))) sup inode) (content_part sup inode)
+    by_kind : (directory : Bool) → directory ≡ true → Contains (content_sections sup inode ++ extended_sections inode) (content_section sup inode)
+        → Contains (sections_by (if directory then Dir else (if is_file inode then File else (if is_link inode then Link else Other))) sup inode) (content_section sup inode)
     by_kind true same has = has
     by_kind false same has = absurd cc

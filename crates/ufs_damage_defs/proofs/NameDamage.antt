@@ -36,7 +36,8 @@ use Rattle.ufs_damage_defs.proofs.InodeDamage.{IsWrongIn, both_ways, named_gives
 use Rattle.ufs_damage_defs.proofs.DirectoryLaws.{AreRising, leading_rise, AreBlocks, blocks_are, hole_of}
 use Rattle.ufs_damage_defs.proofs.NameFacts.{in_none, in_cases, in_head, in_tail, IsKnown, known_more, AreOnce, once_behind, AreFresh, fresh_of, dropped}
 use Rattle.ufs_damage_defs.proofs.NameSteps.{IsFound, IsGivenBySome, IsWalk, IsBehind, IsEntry, entry_gives, found as found_name, walks_on, entry_refused}
-use Rattle.ufs_damage_defs.proofs.Contents.{wider, pieces_place, good_of, block_fits, content_section, content_part}
+use Rattle.ufs_volume_defs.specs.Files.{content_section}
+use Rattle.ufs_damage_defs.proofs.Contents.{wider, pieces_place, good_of, block_fits, directory_content}
 
 -- ---- the walk
 
@@ -322,7 +323,7 @@ module _ (image : List ℕ) (sup : Super) (volume : ℕ) (root : Inode) (sound :
     directory_is = is_one depth start directory left walk state.at
 
     content_laid : HasShape (content_stream sup directory.inode) × IsLaidOut image sup (content_stream sup directory.inode)
-    content_laid = part_laid image sup directory.number directory.inode (content_part sup directory.inode) sound has_inode.read (content_section sup directory.inode directory_is)
+    content_laid = part_laid image sup directory.number directory.inode (content_section sup directory.inode) sound has_inode.read (directory_content sup directory.inode directory_is)
 
     walked_with : AreWalked image sup (directory.number ∷ state.at.walked) (walk.runs + length (stream_starts image sup (content_stream sup directory.inode)))
     walked_with = walked_more image sup state.at.walked walk.runs directory.number directory.inode state.counted state.at.fresh.0 has_inode directory_is
@@ -344,7 +345,7 @@ module _ (image : List ℕ) (sup : Super) (volume : ℕ) (root : Inode) (sound :
         }
 
     stream_wrong : (e : Refusal) → StopsStream image sup (content_stream sup directory.inode) (walk.runs + length (stream_starts image sup (content_stream sup directory.inode))) e → IsWrongIn image sup volume e
-    stream_wrong e (AtPointer place bad) = BadPointer directory.number directory.inode (content_part sup directory.inode) place has_inode (content_section sup directory.inode directory_is) bad
+    stream_wrong e (AtPointer place bad) = BadPointer directory.number directory.inode (content_section sup directory.inode) place has_inode (directory_content sup directory.inode directory_is) bad
     stream_wrong e (AtRuns many) =
         many_directories image sup pointers volume (directory.number ∷ state.at.walked) (walk.runs + length (stream_starts image sup (content_stream sup directory.inode))) walked_with many
 

@@ -23,14 +23,14 @@ use Rattle.ufs_inode_defs.proofs.BlockSteps.{HasPointers}
 use Rattle.ufs_inode_defs.proofs.InodeLaws.{HasRows, has_rows, pointers_from-length, inode_read}
 use Rattle.ufs_inode_defs.proofs.StreamLaws.{stream_law}
 use Rattle.ufs_volume_defs.specs.Names.{Named}
-use Rattle.ufs_volume_defs.specs.Files.{Section, kind_of, content_sections, extended_sections, sections_by, sections_of, numbers_of}
+use Rattle.ufs_volume_defs.specs.Files.{Section, kind_of, content_sections, extended_sections, sections_by, sections_of, numbers_of, content_section}
 use Rattle.ufs_damage_defs.specs.StreamDamage.{Start}
 use Rattle.ufs_damage_defs.specs.Damage.{Run, IsRun, HasSoundInode, IsOverIn, ManyRuns}
 use Rattle.ufs_damage_defs.proofs.NameFacts.{in_none, in_cases}
 use Rattle.ufs_damage_defs.proofs.Distinct.{AreDistinct, distinct_of, apart_of, distinct-append, in_map, of_map, distinct-map, in_flat_map, of_flat_map, length_more, distinct-flat_map}
 use Rattle.ufs_damage_defs.proofs.Visits.{stream_starts, distinct_starts, starts_begin, starts_found}
 use Rattle.ufs_damage_defs.proofs.StreamMaps.{HasShape}
-use Rattle.ufs_damage_defs.proofs.Contents.{content_part, content_section}
+use Rattle.ufs_damage_defs.proofs.Contents.{directory_content}
 
 -- ---- the parts of an inode
 
@@ -38,12 +38,12 @@ module _ (sup : Super) (inode : Inode) where
   abbrev extended_part : Section
   extended_part = record { role = roles.Other; name = codes "ext"; stream = extended_stream inode }
 
-  in_content : (section : Section) → Contains (content_sections sup inode) section → content_part sup inode ≡ section
+  in_content : (section : Section) → Contains (content_sections sup inode) section → content_section sup inode ≡ section
   in_content section has = either (is_short_link sup inode) has
     where
-      either : (short : Bool) → Contains (if short then [] else (content_part sup inode ∷ [])) section → content_part sup inode ≡ section
+      either : (short : Bool) → Contains (if short then [] else (content_section sup inode ∷ [])) section → content_section sup inode ≡ section
       either true has = absurd (in_none section has)
-      either false has = ⊎_elim (λ same. same) (λ none. absurd (in_none section none)) (in_cases (content_part sup inode) section [] has)
+      either false has = ⊎_elim (λ same. same) (λ none. absurd (in_none section none)) (in_cases (content_section sup inode) section [] has)
 
   in_extended : (section : Section) → Contains (extended_sections inode) section → extended_part ≡ section
   in_extended section has = either (inode.extsize == 0) has
@@ -55,11 +55,11 @@ module _ (sup : Super) (inode : Inode) where
   both_distinct : AreDistinct (content_sections sup inode ++ extended_sections inode)
   both_distinct =
       distinct-append (content_sections sup inode) (extended_sections inode) (content (is_short_link sup inode)) (extended (inode.extsize == 0))
-      (λ section front back. other_role (content_part sup inode) extended_part (in_content section front ∙ sym (in_extended section back)) refl refl)
+      (λ section front back. other_role (content_section sup inode) extended_part (in_content section front ∙ sym (in_extended section back)) refl refl)
     where
-      content : (short : Bool) → AreDistinct (if short then [] else (content_part sup inode ∷ []))
+      content : (short : Bool) → AreDistinct (if short then [] else (content_section sup inode ∷ []))
       content true = tt
-      content false = ((λ has. in_none (content_part sup inode) has), tt)
+      content false = ((λ has. in_none (content_section sup inode) has), tt)
 
       extended : (none : Bool) → AreDistinct (if none then [] else (extended_part ∷ []))
       extended true = tt
@@ -136,7 +136,7 @@ module _ (image : List ℕ) (sup : Super) where
   number_runs number = inode_runs number (stored_inode image sup number)
 
   abbrev pub directory_runs : ℕ → List Run
-  directory_runs number = section_runs number (content_part sup (stored_inode image sup number))
+  directory_runs number = section_runs number (content_section sup (stored_inode image sup number))
 
   pub section_long : (number : ℕ) (section : Section) → length (section_runs number section) ≡ length (stream_starts image sup section.stream)
   section_long number section = length-map (stream_starts image sup section.stream) (run_at number section)
@@ -188,7 +188,7 @@ module _ (image : List ℕ) (sup : Super) where
       → AreWalked (number ∷ walked) (runs + length (stream_starts image sup (content_stream sup inode)))
   walked_more walked runs number inode are fresh has is =
       let P : Inode → Type 0 = λ i. length (directory_runs number) ≡ length (stream_starts image sup (content_stream sup i)) in
-      let same : length (directory_runs number) ≡ length (stream_starts image sup (content_stream sup inode)) = subst P has.has.is (section_long number (content_part sup (stored_inode image sup number))) in
+      let same : length (directory_runs number) ≡ length (stream_starts image sup (content_stream sup inode)) = subst P has.has.is (section_long number (content_section sup (stored_inode image sup number))) in
       let all = length_more directory_runs number walked in
       let count = are.count in
       record {
@@ -227,11 +227,11 @@ module _ (image : List ℕ) (sup : Super) where
     pub many_directories : (volume : ℕ) (walked : List ℕ) (runs : ℕ) → AreWalked walked runs → most_runs < runs → IsOverIn image sup volume Runs most_runs
     many_directories volume walked runs are over =
         let all : List Run = flat_map directory_runs walked in
-        let part : ℕ → Section = λ number. content_part sup (stored_inode image sup number) in
+        let part : ℕ → Section = λ number. content_section sup (stored_inode image sup number) in
         let in_runs : (run : Run) → Contains all run → IsRun image sup run = λ run among.
         let found = of_flat_map directory_runs walked run among in
         let is = are.sound found.0 found.1 in
-        run_is found.0 (stored_inode image sup found.0) (part found.0) run (stored found.0 is.0 is.1) (content_section sup (stored_inode image sup found.0) (ap is_directory is.1.has.is ∙ is.2)) found.2 in
+        run_is found.0 (stored_inode image sup found.0) (part found.0) run (stored found.0 is.0 is.1) (directory_content sup (stored_inode image sup found.0) (ap is_directory is.1.has.is ∙ is.2)) found.2 in
         let count = are.count in
         ManyRuns all
         (record {

@@ -1,28 +1,18 @@
 -- What a program looks at is covered by some ranges; so is what its parts look at.
-use Rattle.std.specs.Prelude.{◌≡◌, ℕ, ◌+◌, ◌<◌, ◌≤◌, Bool, true, false, Result, Ok, List, [], ◌∷◌, ◌++◌}
+use Rattle.std.specs.Prelude.{◌≡◌, ℕ, ◌+◌, ◌<◌, ◌≤◌, Bool, true, false, Result, Ok, List, [], ◌∷◌}
 use Rattle.std.specs.List.{All}
-use Rattle.std.proofs.Common.{sym, ◌∙◌, subst, ⊎_elim, arith}
-use Rattle.std.proofs.lemmas.Bool.{or_cases, or_left, or_right}
+use Rattle.std.proofs.Common.{sym, ◌∙◌, subst, arith}
+use Rattle.std.proofs.lemmas.Bool.{or_left, or_right}
 use Rattle.std.proofs.lemmas.Bool.Decides.{nat_tests}
 use Rattle.std.proofs.lemmas.List.Elements.{All-cons, All-nil}
 use Rattle.range_defs.specs.declared.Range.{Range}
 use Rattle.range_defs.specs.Places.{in_range, covers}
+use Rattle.range_defs.proofs.RangeLaws.{covers_front, covers_back}
 use Rattle.bytes_defs.specs.Bytes.{part}
 use Rattle.image_defs.specs.Ask.{Ask, result_of, visits, look, check, given, ◌>>=◌}
 use Rattle.image_defs.specs.Through.{through}
 use Rattle.image_defs.proofs.Looks.{bind_gives}
-use Rattle.image_defs.proofs.Runs.{visits_bind_ok, result_given}
-
-covers_front : (ranges others : List Range) (byte : ℕ) → covers ranges byte ≡ true → covers (ranges ++ others) byte ≡ true
-covers_front [] others byte covered = absurd cc
-covers_front (range ∷ ranges) others byte covered =
-    ⊎_elim (λ first. or_left (in_range range byte) (covers (ranges ++ others) byte) first)
-    (λ rest. or_right (in_range range byte) (covers (ranges ++ others) byte) (covers_front ranges others byte rest))
-    (or_cases (in_range range byte) (covers ranges byte) covered)
-
-covers_back : (ranges others : List Range) (byte : ℕ) → covers others byte ≡ true → covers (ranges ++ others) byte ≡ true
-covers_back [] others byte covered = covered
-covers_back (range ∷ ranges) others byte covered = or_right (in_range range byte) (covers (ranges ++ others) byte) (covers_back ranges others byte covered)
+use Rattle.image_defs.proofs.Results.{visits_bind_ok, result_given}
 
 abbrev pub IsWithin : {E X : Type 0} → List ℕ → List Range → Ask E X → Type 0
 IsWithin image ranges ask = (byte : ℕ) → covers (visits image ask) byte ≡ true → covers ranges byte ≡ true

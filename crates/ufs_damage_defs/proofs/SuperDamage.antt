@@ -4,7 +4,7 @@ use Rattle.std.proofs.Common.{ap, sym, ◌∙◌, subst, inl, inr, ⊎_elim}
 use Rattle.range_defs.specs.declared.Range.{Range}
 use Rattle.bytes_defs.specs.declared.order.Order.{Order}
 use Rattle.image_defs.specs.Ask.{Stop, result_of}
-use Rattle.image_defs.proofs.Runs.{result_given}
+use Rattle.image_defs.proofs.Results.{result_given}
 use Rattle.fault_defs.specs.declared.Refusal.{Refusal}
 use Rattle.fault_defs.specs.declared.Refusal.TheVariants.{NotThis, Damaged}
 use Rattle.fault_defs.specs.declared.Sort.TheVariants.{SuperField}

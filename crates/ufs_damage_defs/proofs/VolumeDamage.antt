@@ -5,7 +5,7 @@ use Rattle.range_defs.specs.declared.Range.{Range}
 use Rattle.range_defs.specs.declared.TheConstants.{LONGEST_IMAGE}
 use Rattle.bytes_defs.specs.declared.order.Order.{Order}
 use Rattle.image_defs.specs.Ask.{result_of, check, ◌>>◌}
-use Rattle.image_defs.proofs.Runs.{result_bind_err}
+use Rattle.image_defs.proofs.Results.{result_bind_err}
 use Rattle.fault_defs.specs.declared.Refusal.{Refusal}
 use Rattle.fault_defs.specs.declared.Refusal.TheVariants.{NotThis, Limit}
 use Rattle.fault_defs.specs.declared.Bound.TheVariants.{Image}

@@ -16,11 +16,6 @@ same_error one other same = cc
 pub not_both : {E X : Type 0} (x : X) (e : E) (result : Result X E) → result ≡ Ok x → result ≡ Err e → ⊥
 not_both x e result ok err = absurd cc
 
--- a check alone
-pub passed : {E : Type 0} (image : List ℕ) (test : Bool) (fault : E) (done : Unit {0}) → result_of image (check test fault) ≡ Ok done → test ≡ true
-passed image true fault done is = refl
-passed image false fault done is = absurd cc
-
 pub failed : {E : Type 0} (image : List ℕ) (test : Bool) (fault e : E) → result_of image (check test fault) ≡ Err e → (test ≡ false) × (fault ≡ e)
 failed image true fault e is = absurd cc
 failed {E = E} image false fault e is = (refl, same_error {X = Unit {0}} fault e is)

@@ -6,7 +6,7 @@ use Rattle.bytes_defs.specs.declared.order.Order.{Order}
 use Rattle.bytes_defs.specs.declared.order.Order.TheVariants.{Little}
 use Rattle.image_defs.specs.Agreement.{AgreeOn}
 use Rattle.image_defs.specs.Ask.{result_of}
-use Rattle.image_defs.specs.Runs.{with_value}
+use Rattle.image_defs.specs.Results.{with_value}
 use Rattle.fault_defs.specs.declared.Refusal.{Refusal}
 use Rattle.rx_tree.specs.TreeValue.{TreeValue}
 use Rattle.ufs_volume_defs.specs.Volume.{FoundVolume, volume_at, guard_of, tree_of, volume_tree}

@@ -8,9 +8,10 @@ use Rattle.std.proofs.lemmas.List.Elements.{All-contains, All-map, All-filter, A
 use Rattle.range_defs.specs.declared.Range.{Range}
 use Rattle.bytes_defs.specs.Bytes.{part}
 use Rattle.image_defs.specs.Ask.{Ask, Done, result_of, visits, check, ◌>>=◌, ◌>>◌}
-use Rattle.image_reads.specs.Steps.{IsCome, ReadsAs, SameBytes}
+use Rattle.image_reads.specs.Steps.{ReadsAs, SameBytes}
+use Rattle.image_reads.proofs.Coming.{IsCome}
 use Rattle.image_defs.specs.Through.{through}
-use Rattle.image_defs.proofs.Runs.{result_bind_ok, visits_bind_ok, visits_bind_quiet, visits_check}
+use Rattle.image_defs.proofs.Results.{result_bind_ok, visits_bind_ok, visits_bind_quiet, visits_check}
 use Rattle.image_reads.proofs.Steps.{begins, comes_done, through_value, through_fault, through_ends, ends_with}
 use Rattle.rx_store.specs.Answers.{Answers}
 use Rattle.rx_store.specs.declared.read_fault.ReadFault.{ReadFault}

@@ -5,9 +5,11 @@ use Rattle.std.proofs.Common.{ap, sym, ◌∙◌, subst, arith, append_assoc}
 use Rattle.std.proofs.lemmas.Bool.{leb-true}
 use Rattle.range_defs.specs.declared.Range.{Range}
 use Rattle.range_defs.specs.declared.TheConstants.{LONGEST_IMAGE}
+use Rattle.range_defs.specs.Places.{covers}
 use Rattle.image_defs.specs.Ask.{Ask, Done, visits, ◌>>=◌}
-use Rattle.image_defs.specs.Standing as standing
-use Rattle.image_reads.specs.Steps.{IsCome, ReadsAs, SameBytes}
+use Rattle.image_reads.specs.Steps.{ReadsAs, SameBytes}
+use Rattle.image_reads.proofs.Coming.{IsCome}
+use Rattle.image_reads.proofs.Bytes.{same_front}
 use Rattle.image_reads.proofs.Steps.{comes_value, comes_fault, comes_done, ends_with}
 use Rattle.rx_store.specs.declared.read_fault.ReadFault.{ReadFault}
 use Rattle.fault_defs.specs.declared.Refusal.{Refusal}
@@ -61,18 +63,20 @@ module _ (told : Option (List ℕ)) (sup : Super) (volume : ℕ) (filed : Filed)
   -- behind the look at the inode, its parts are left
   parts_left : IsCome told (group_file sup volume filed group) before (inode_parts sup filed.runs group.inode >>= (λ parted. Done (with_group sup volume filed group parted))) pushed
   unfolding group_file
-  parts_left = record { ranges = before ++ record { at = group.inode.at; len = (layout_of sup.version).inode_len } ∷ []; same = is; stands = by_told told }
+  parts_left = by_told told
     where
       rest : Ask Refusal Filed
       rest = inode_parts sup filed.runs group.inode >>= (λ parted. Done (with_group sup volume filed group parted))
 
-      by_told : (found : Option (List ℕ)) → standing.IsCome found (group_file sup volume filed group) before (inode_parts sup filed.runs group.inode >>= (λ parted. Done (with_group sup volume filed group parted))) (before ++ record { at = group.inode.at; len = (layout_of sup.version).inode_len } ∷ [])
+      by_told : (found : Option (List ℕ)) → IsCome found (group_file sup volume filed group) before (inode_parts sup filed.runs group.inode >>= (λ parted. Done (with_group sup volume filed group parted))) pushed
       by_told None = tt
       by_told (Some image) = record {
         gives = refl;
-        looks =
-            sym (append_assoc before (record { at = inode_place sup group.number; len = (layout_of sup.version).inode_len } ∷ []) (visits image rest))
-            ∙ ap (λ at. (before ++ record { at = at; len = (layout_of sup.version).inode_len } ∷ []) ++ visits image rest) (sym good.inode.place);
+        looks = λ byte.
+            ap (λ ranges. covers ranges byte)
+            (sym (append_assoc before (record { at = inode_place sup group.number; len = (layout_of sup.version).inode_len } ∷ []) (visits image rest))
+            ∙ ap (λ at. (before ++ record { at = at; len = (layout_of sup.version).inode_len } ∷ []) ++ visits image rest) (sym good.inode.place))
+            ∙ same_front (before ++ record { at = group.inode.at; len = (layout_of sup.version).inode_len } ∷ []) pushed (visits image rest) (λ one. sym (is one)) byte;
       }
 
   pub file_refused : (fault : ReadFault) (looked last : List Range) → ReadsAs told (inode_parts sup filed.runs group.inode) pushed looked (Err fault) → ReadsAs told (group_file sup volume filed group) before last (Err fault)

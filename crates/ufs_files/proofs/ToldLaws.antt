@@ -8,8 +8,8 @@ use Rattle.range_defs.specs.declared.TheConstants.{LONGEST_IMAGE}
 use Rattle.range_defs.specs.Places.{covers, longest_ranges}
 use Rattle.bytes_defs.specs.declared.order.Order.{Order}
 use Rattle.image_defs.specs.Ask.{result_of, visits, check, ◌>>◌}
-use Rattle.image_defs.specs.Runs.{with_value}
-use Rattle.image_defs.proofs.Runs.{result_bind_ok, result_bind_err}
+use Rattle.image_defs.specs.Results.{with_value}
+use Rattle.image_defs.proofs.Results.{result_bind_ok, result_bind_err}
 use Rattle.image_reads.specs.Steps.{ReadsAs, SameBytes}
 use Rattle.image_reads.proofs.Bytes.{same_longest}
 use Rattle.rx_store.specs.Answers.{Answers}

@@ -8,7 +8,7 @@ use Rattle.image_defs.specs.Ask.{Ask, Done, Stop, result_of, check, given, ◌>>
 use Rattle.image_defs.specs.Through.{through}
 use Rattle.image_defs.specs.Looks.{LooksAt}
 use Rattle.image_defs.proofs.Looks.{looks_nowhere, looks_done, looks_bind, looks_check, looks_look, looks_given}
-use Rattle.image_defs.proofs.Runs.{visits_check, result_given}
+use Rattle.image_defs.proofs.Results.{visits_check, result_given}
 use Rattle.fault_defs.specs.declared.Refusal.{Refusal}
 use Rattle.fault_defs.specs.declared.Refusal.TheVariants.{Damaged, Unsupported, Limit}
 use Rattle.fault_defs.specs.declared.Sort.TheVariants.{InodeNumber, DeadInode, FileSize, DirSize, DirTwice, RootKind}
@@ -24,12 +24,12 @@ use Rattle.ufs_inode_defs.specs.declared.inode.Inode.{Inode}
 use Rattle.ufs_inode_defs.proofs.SoundSuper.{is_sound, has_pointers}
 use Rattle.ufs_volume_defs.specs.Directory.{Entry, entries_of, leading_entries}
 use Rattle.ufs_volume_defs.specs.Names.{Named, Walk, with_name, with_runs, path_bytes, is_known, longest_path, most_names, most_path_bytes, deepest, counted_name, Block, name_by, found_name, entry_name, leading, block_names, directory_blocks, directory_names, directories_behind, names_below, root_inode, root_name, names_from, volume_names}
-use Rattle.ufs_volume_defs.specs.Files.{Section, sections_of}
+use Rattle.ufs_volume_defs.specs.Files.{Section, sections_of, content_section}
 use Rattle.ufs_damage_defs.specs.StreamDamage.{IsUsed}
 use Rattle.ufs_damage_defs.specs.Damage.{HasBlock, block_bytes, IsGoodDirectory, IsReached, Root, HasSoundInode}
 use Rattle.ufs_damage_defs.proofs.NameFacts.{in_head}
 use Rattle.ufs_damage_defs.proofs.NameSteps.{IsFound, IsEntry, reached}
-use Rattle.ufs_damage_defs.proofs.Contents.{pieces_place, good_of, content_part, content_section}
+use Rattle.ufs_damage_defs.proofs.Contents.{pieces_place, good_of, directory_content}
 use Rattle.ufs_damage_defs.proofs.NameDamage.{InBlock, entry_is, entry_goes_on, AtBlocks, block_there, in_block, leading_gives, block_goes_on, AtDirectories, sound_inode_of, of, is_one, at_blocks, directory_goes_on, IsAtDepth, at_directories, depth_goes_on, at_root, root_gives}
 use Rattle.ufs_guard_defs.proofs.StreamLooks.{stream_looks}
 
@@ -142,7 +142,7 @@ module _ (image : List ℕ) (sup : Super) (volume : ℕ) (sound : wrong_field su
           looks_check Q image (inode.size % 512 == 0) (Damaged DirSize (size_place sup inode)) (λ x. stream_blocks sup (content_stream sup inode) walk.runs >>= rest)
           (λ whole. looks_bind Q image (stream_blocks sup (content_stream sup inode) walk.runs) rest
           (stream_looks image sup (content_stream sup inode) (has_pointers sup (is_sound sup sound)) Q
-          (λ level first fragment pointer used leads. may.at_pointers directory.number level first fragment inode (content_part sup inode) pointer has (content_section sup inode is) used leads) walk.runs)
+          (λ level first fragment pointer used leads. may.at_pointers directory.number level first fragment inode (content_section sup inode) pointer has (directory_content sup inode is) used leads) walk.runs)
           (λ laid gives. looks_bind Q image (given (directory_blocks sup inode laid.pieces)) (λ blocks. through (block_names sup directory) (with_runs walk (runs_of laid)) blocks)
           (looks_given Q image (directory_blocks sup inode laid.pieces))
           (λ blocks are_given.

@@ -4,7 +4,7 @@ use Rattle.std.proofs.Common.{ap, sym, ◌∙◌}
 use Rattle.std.proofs.lemmas.Bool.{ne_eqb}
 use Rattle.std.proofs.lemmas.Bool.Decides.{Decides-eqb}
 use Rattle.image_defs.specs.Ask.{Ask, Done, Stop, result_of, visits, check, ◌>>=◌}
-use Rattle.image_defs.proofs.Runs.{visits_bind_quiet}
+use Rattle.image_defs.proofs.Results.{visits_bind_quiet}
 use Rattle.fault_defs.specs.declared.Refusal.{Refusal}
 use Rattle.fault_defs.specs.declared.Refusal.TheVariants.{Damaged, Unsupported}
 use Rattle.fault_defs.specs.declared.Sort.TheVariants.{DeadInode, FileSize}

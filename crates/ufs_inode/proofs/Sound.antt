@@ -1,39 +1,17 @@
 -- What a superblock in which nothing is wrong says of its inodes.
-use Rattle.std.specs.Prelude.{◌≡◌, ℕ, ◌*◌, ◌/◌, ◌%◌, ◌<◌, ◌≤◌, Bool, true, false, not, ◌&&◌, ◌==◌, nat_le, if◌then◌else◌, Some, None, List, [], ◌∷◌, refl}
+use Rattle.std.specs.Prelude.{◌≡◌, ℕ, ◌*◌, ◌/◌, ◌%◌, ◌<◌, ◌≤◌, Bool, true, false, not, ◌==◌, nat_le, if◌then◌else◌, None}
 use Rattle.std.proofs.Common.{arith, subst, sym}
 use Rattle.std.proofs.lemmas.Bool.{leb-true}
 use Rattle.std.proofs.lemmas.Bool.Decides.{Decides-eqb}
 use Rattle.std.proofs.Math.Nat.{le-div_iff_mul-le, mul-div-le}
 use Rattle.ufs_inode_defs.specs.Layout.{Layout, layout_1, layout_2, layout_of}
-use Rattle.ufs_inode_defs.specs.Superblock.{block_size, first_applying, wrong_parts, wrong_field, is_inode_count}
+use Rattle.ufs_inode_defs.specs.Superblock.{block_size, wrong_parts, wrong_field, is_inode_count}
 use Rattle.ufs_inode_defs.specs.declared.superblock.Super.{Super}
-use Rattle.ufs_inode_defs.proofs.SoundSuper.{is_sound}
-
--- no part of the list applies
-NoneApplies : List (Bool × ℕ) → Type 0
-NoneApplies [] = Unit {0}
-NoneApplies (part ∷ parts) = (part.0 ≡ false) × NoneApplies parts
-
-none_applies : (parts : List (Bool × ℕ)) → first_applying parts ≡ None → NoneApplies parts
-unfolding NoneApplies
-none_applies [] none = tt
-none_applies (part ∷ parts) none = first_or_later part.0 (λ later. none_applies parts later) none
-  where
-    first_or_later : (applies : Bool) → (first_applying parts ≡ None → NoneApplies parts) → (if applies then Some part.1 else first_applying parts) ≡ None → (applies ≡ false) × NoneApplies parts
-    first_or_later true later none = absurd cc
-    first_or_later false later none = (refl, later none)
-
-it_holds : (test : Bool) → not test ≡ false → test ≡ true
-it_holds true holds = refl
-it_holds false holds = absurd cc
-
-first_holds : (first second : Bool) → (first && second) ≡ true → first ≡ true
-first_holds true second both = refl
-first_holds false second both = absurd cc
+use Rattle.ufs_inode_defs.proofs.SoundSuper.{NoneApplies, none_applies, it_holds, both_hold, is_sound}
 
 some_inodes : (inodes in_block : ℕ) → not (is_inode_count inodes in_block) ≡ false → 1 ≤ inodes
 unfolding is_inode_count
-some_inodes inodes in_block none = leb-true 1 inodes (first_holds (nat_le 1 inodes) (inodes % in_block == 0) (it_holds (is_inode_count inodes in_block) none))
+some_inodes inodes in_block none = leb-true 1 inodes (both_hold (nat_le 1 inodes) (inodes % in_block == 0) (it_holds (is_inode_count inodes in_block) none)).0
 
 -- an inode has at most 256 bytes, and at least one
 inode_bytes : (first : Bool) → (let layout : Layout = if first then layout_1 else layout_2 in (0 < layout.inode_len) × (layout.inode_len ≤ 256))

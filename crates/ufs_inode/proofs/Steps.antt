@@ -5,7 +5,7 @@ use Rattle.std.proofs.lemmas.Bool.{leb-true}
 use Rattle.range_defs.specs.declared.Range.{Range}
 use Rattle.bytes_defs.specs.Bytes.{part}
 use Rattle.image_defs.specs.Ask.{result_of, visits}
-use Rattle.image_defs.proofs.Runs.{result_check_true, result_check_false, visits_check_true}
+use Rattle.image_defs.proofs.Results.{result_check_true, result_check_false, visits_check_true}
 use Rattle.image_reads.specs.Steps.{ReadsAs, SameBytes}
 use Rattle.image_reads.proofs.Bytes.{same_ranges, same_then}
 use Rattle.fault_defs.specs.declared.Refusal.{Refusal}

@@ -1,11 +1,10 @@
 -- The walk over the pointers puts each byte of a stream where it stands.
-use Rattle.std.specs.Prelude.{◌≡◌, ◌⊎◌, ℕ, zero, suc, ◌+◌, ◌-◌, ◌*◌, ◌%◌, ◌<◌, ◌≤◌, min, ℤ, pos, negsuc, Bool, true, false, nat_le, nat_lt, if◌then◌else◌, Ok, List, [], ◌∷◌, take, drop, length, refl}
+use Rattle.std.specs.Prelude.{◌≡◌, ◌⊎◌, ℕ, zero, suc, ◌+◌, ◌-◌, ◌*◌, ◌<◌, ◌≤◌, min, ℤ, pos, negsuc, Bool, true, false, nat_le, if◌then◌else◌, Ok, List, [], ◌∷◌, take, drop, length, refl}
 use Rattle.std.specs.Int.{cast_signed}
 use Rattle.std.proofs.Common.{ap, sym, ◌∙◌, subst, arith, ⊎_elim, inl, inr}
 use Rattle.std.proofs.Math.Nat.{mul-le-mul_right}
 use Rattle.std.proofs.lemmas.Bool.{leb-true}
 use Rattle.std.proofs.lemmas.Bool.Decides.{nat_tests}
-use Rattle.std.proofs.lemmas.Nat.{div-mul-add, mod-mul-add}
 use Rattle.std.proofs.lemmas.List.{drop-drop, drop-take}
 use Rattle.std.proofs.lemmas.List.Elements.{All-nil}
 use Rattle.std.proofs.lemmas.Bool.{le-leb}
@@ -24,8 +23,9 @@ use Rattle.ufs_inode_defs.specs.Numbers.{signed_row}
 use Rattle.ufs_inode_defs.specs.Superblock.{block_size}
 use Rattle.ufs_inode_defs.specs.Stream.{Pointer, Stream, span, block_count, allocated_len, pointers_from}
 use Rattle.ufs_inode_defs.specs.Blocks.{Laid, with_hole, with_block, with_visit, counted_runs, fragment_place, lies_within, led, none_laid, mapped_blocks, stream_blocks}
-use Rattle.ufs_inode_defs.specs.BlockPlace.{behind_last, slack_of, pointer_at, mapped_pointer, value_of, block_pointer, byte_place, AreStreamPieces}
+use Rattle.ufs_inode_defs.specs.BlockPlace.{behind_last, slack_of, pointer_at, value_of, block_pointer, byte_place, AreStreamPieces}
 use Rattle.ufs_inode_defs.specs.declared.superblock.Super.{Super}
+use Rattle.ufs_inode_defs.proofs.Mapping.{direct_maps, maps_1, maps_2, maps_3, child_maps}
 use Rattle.ufs_inode_defs.proofs.BlockSteps.{blocks_hold, IsLaid, AreMapped, HasCome, same_value, counted_gives, passed_of, hole_laid, block_laid, HasPointers, HasPassed}
 
 -- a walk stands where it was behind the end, and else it goes on
@@ -86,19 +86,6 @@ IsRow image sup place (suc more) number bytes =
     (signed_at sup.order (layout_of sup.version).pointer bytes 0 ≡ pointer_at image sup place number)
     × IsRow image sup place more (number + 1) (drop (pointer_len sup.version) bytes)
 
--- the blocks that a pointer of a block of pointers maps
-child_maps : (level : ℕ) (image : List ℕ) (sup : Super) (stream : Stream) (first fragment number : ℕ) → number < sup.nindir → AreMapped (suc level) image sup stream first (pos (suc fragment))
-    → AreMapped level image sup stream (first + number * span sup level) (pointer_at image sup (fragment_place sup (suc fragment)) number)
-child_maps level image sup stream first fragment number below maps = λ other inside.
-    let width : ℕ = span sup level in
-    let whole : first + number * width + other ≡ first + (number * width + other) = omega arith in
-    let next : suc number * width ≤ sup.nindir * width = mul-le-mul_right width below in
-    let within : number * width + other < sup.nindir * width = omega (arith, next, inside) in
-    ap (λ block. block_pointer image sup stream block) whole
-    ∙ maps (number * width + other) within
-    ∙ ap (λ n. mapped_pointer level image sup (pointer_at image sup (fragment_place sup (suc fragment)) n) ((number * width + other) % width)) (div-mul-add number width other inside)
-    ∙ ap (λ n. mapped_pointer level image sup (pointer_at image sup (fragment_place sup (suc fragment)) number) n) (mod-mul-add number width other inside)
-
 children_pass : (level : ℕ) (image : List ℕ) (sup : Super) (stream : Stream) (first fragment : ℕ) → Passes level image sup stream → AreMapped (suc level) image sup stream first (pos (suc fragment))
     → (more number at : ℕ) (bytes : List ℕ) (laid after : Laid) → number + more ≡ sup.nindir → IsRow image sup (fragment_place sup (suc fragment)) more number bytes
     → HasPassed image sup stream (first + number * span sup level) laid
@@ -112,7 +99,7 @@ children_pass level image sup stream first fragment passes maps (suc more) numbe
     let value : ℤ = signed_at sup.order (layout_of sup.version).pointer bytes 0 in
     let step = bind_gives image (mapped_blocks level sup stream.size laid (record { at = at; value = value })) _ after gives in
     let V : ℤ → Type 0 = λ v. AreMapped level image sup stream (first + number * span sup level) v in
-    let here : AreMapped level image sup stream (first + number * span sup level) value = subst V (sym row.0) (child_maps level image sup stream first fragment number (omega (arith, total)) maps) in
+    let here : AreMapped level image sup stream (first + number * span sup level) value = subst V (sym row.0) (child_maps image sup stream level first fragment number (omega (arith, total)) maps) in
     let B : ℕ → Type 0 = λ block. AreMapped level image sup stream block value in
     let mapped : laid.block < block_count sup stream.size → AreMapped level image sup stream laid.block value =
     λ below. ⊎_elim (λ is. subst B (sym is) here) (λ past. absurd (omega (arith, below, past))) before.come in
@@ -206,36 +193,6 @@ passes (suc level) image sup stream has = passes_next level image sup stream has
 
 -- ---- a stream
 
-direct_pointer : (image : List ℕ) (sup : Super) (stream : Stream) (block : ℕ) → block < 12 → block_pointer image sup stream block ≡ value_of stream.direct block
-unfolding block_pointer
-direct_pointer image sup stream block below = let is : nat_lt block 12 ≡ true = grind (arith, nat_tests) in rw is refl
-
-maps_1 : (image : List ℕ) (sup : Super) (stream : Stream) → AreMapped 1 image sup stream 12 (value_of stream.indirect 0)
-unfolding block_pointer
-maps_1 image sup stream = λ number below.
-    let first : nat_lt (12 + number) 12 ≡ false = grind (arith, nat_tests) in
-    let second : nat_lt (12 + number) (12 + span sup 1) ≡ true = grind (arith, nat_tests) in
-    let same : 12 + number - 12 ≡ number = omega arith in
-    rw (first, second, same) refl
-
-maps_2 : (image : List ℕ) (sup : Super) (stream : Stream) → AreMapped 2 image sup stream (12 + span sup 1) (value_of stream.indirect 1)
-unfolding block_pointer
-maps_2 image sup stream = λ number below.
-    let first : nat_lt (12 + span sup 1 + number) 12 ≡ false = grind (arith, nat_tests) in
-    let second : nat_lt (12 + span sup 1 + number) (12 + span sup 1) ≡ false = grind (arith, nat_tests) in
-    let third : nat_lt (12 + span sup 1 + number) (12 + span sup 1 + span sup 2) ≡ true = grind (arith, nat_tests) in
-    let same : 12 + span sup 1 + number - (12 + span sup 1) ≡ number = omega arith in
-    rw (first, second, third, same) refl
-
-maps_3 : (image : List ℕ) (sup : Super) (stream : Stream) → AreMapped 3 image sup stream (12 + span sup 1 + span sup 2) (value_of stream.indirect 2)
-unfolding block_pointer
-maps_3 image sup stream = λ number below.
-    let first : nat_lt (12 + span sup 1 + span sup 2 + number) 12 ≡ false = grind (arith, nat_tests) in
-    let second : nat_lt (12 + span sup 1 + span sup 2 + number) (12 + span sup 1) ≡ false = grind (arith, nat_tests) in
-    let third : nat_lt (12 + span sup 1 + span sup 2 + number) (12 + span sup 1 + span sup 2) ≡ false = grind (arith, nat_tests) in
-    let same : 12 + span sup 1 + span sup 2 + number - (12 + span sup 1 + span sup 2) ≡ number = omega arith in
-    rw (first, second, third, same) refl
-
 -- where a walk has come to the blocks that a pointer maps
 come_to : (level : ℕ) (image : List ℕ) (sup : Super) (stream : Stream) (block : ℕ) (laid : Laid) (value : ℤ) → HasCome sup stream block laid → AreMapped level image sup stream block value
     → laid.block < block_count sup stream.size → AreMapped level image sup stream laid.block value
@@ -260,10 +217,9 @@ direct_pass image sup stream has [] number laid after few are before gives =
     subst P none (passed_of image sup stream number laid after (same_value laid after gives) before)
 direct_pass image sup stream has (pointer ∷ pointers) number laid after few are before gives =
     let step = bind_gives image (mapped_blocks 0 sup stream.size laid pointer) _ after gives in
-    let here : AreMapped 0 image sup stream number pointer.value = λ other first.
-    let same : number + other ≡ number = omega (arith, first) in
     let start : number ≡ number + 0 = omega arith in
-    ap (λ block. block_pointer image sup stream block) same ∙ direct_pointer image sup stream number (omega (arith, few)) ∙ ap (λ n. value_of stream.direct n) start ∙ sym (are 0 (omega arith)) in
+    let V : ℤ → Type 0 = λ value. AreMapped 0 image sup stream number value in
+    let here : AreMapped 0 image sup stream number pointer.value = subst V (ap (λ n. value_of stream.direct n) start ∙ sym (are 0 (omega arith))) (direct_maps image sup stream number (omega (arith, few))) in
     let passed = passes 0 image sup stream has laid step.0 pointer.at pointer.value before.placed (come_to 0 image sup stream number laid pointer.value before.come here) step.1 in
     let total : number + 1 + length pointers ≡ number + suc (length pointers) = omega arith in
     let P : ℕ → Type 0 = λ block. HasPassed image sup stream block after in

@@ -1,4 +1,5 @@
 pub mod BlockSteps
+pub mod Mapping
 pub mod BlockLaw
 pub mod InodeLaws
 pub mod SoundSuper

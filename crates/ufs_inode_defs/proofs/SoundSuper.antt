@@ -15,11 +15,11 @@ use Rattle.ufs_inode_defs.proofs.BlockSteps.{HasPointers}
 use Rattle.ufs_inode_defs.specs.declared.superblock.Super.{Super}
 
 -- no part of the list applies
-NoneApplies : List (Bool × ℕ) → Type 0
+unfoldable pub NoneApplies : List (Bool × ℕ) → Type 0
 NoneApplies [] = Unit {0}
 NoneApplies (part ∷ parts) = (part.0 ≡ false) × NoneApplies parts
 
-none_applies : (parts : List (Bool × ℕ)) → first_applying parts ≡ None → NoneApplies parts
+pub none_applies : (parts : List (Bool × ℕ)) → first_applying parts ≡ None → NoneApplies parts
 unfolding NoneApplies
 none_applies [] none = tt
 none_applies (part ∷ parts) none = first_or_later part.0 (λ later. none_applies parts later) none
@@ -28,11 +28,11 @@ none_applies (part ∷ parts) none = first_or_later part.0 (λ later. none_appli
     first_or_later true later none = absurd cc
     first_or_later false later none = (refl, later none)
 
-it_holds : (test : Bool) → not test ≡ false → test ≡ true
+pub it_holds : (test : Bool) → not test ≡ false → test ≡ true
 it_holds true holds = refl
 it_holds false holds = absurd cc
 
-both_hold : (first second : Bool) → (first && second) ≡ true → (first ≡ true) × (second ≡ true)
+pub both_hold : (first second : Bool) → (first && second) ≡ true → (first ≡ true) × (second ≡ true)
 both_hold true second both = (refl, both)
 both_hold false second both = absurd cc
 

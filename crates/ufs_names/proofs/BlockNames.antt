@@ -3,7 +3,8 @@ use Rattle.std.specs.Prelude.{◌≡◌, ℕ, IsErr, IsErrAnd, Option, Result, O
 use Rattle.std.proofs.Common.{subst}
 use Rattle.range_defs.specs.declared.Range.{Range}
 use Rattle.image_defs.specs.Ask.{Ask, look, given, ◌>>=◌}
-use Rattle.image_reads.specs.Steps.{IsCome, ReadsAs}
+use Rattle.image_reads.specs.Steps.{ReadsAs}
+use Rattle.image_reads.proofs.Coming.{IsCome}
 use Rattle.image_defs.specs.Through.{through}
 use Rattle.image_reads.proofs.Steps.{begins, comes_value, comes_fault, comes_rest, ends_with}
 use Rattle.fault_defs.specs.declared.Refusal.{Refusal}

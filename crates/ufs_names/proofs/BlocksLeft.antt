@@ -4,9 +4,10 @@ use Rattle.std.proofs.Common.{ap, sym, ◌∙◌}
 use Rattle.range_defs.specs.declared.Range.{Range}
 use Rattle.rx_ranges.specs.declared.pieces.Piece.{Piece}
 use Rattle.image_defs.specs.Ask.{Ask, given, ◌>>=◌}
-use Rattle.image_defs.specs.Runs.{in_front_of}
+use Rattle.image_defs.specs.Results.{in_front_of}
 use Rattle.image_defs.specs.Through.{through}
-use Rattle.image_reads.specs.Steps.{IsCome, ReadsAs}
+use Rattle.image_reads.specs.Steps.{ReadsAs}
+use Rattle.image_reads.proofs.Coming.{IsCome}
 use Rattle.image_reads.proofs.Steps.{begins, comes_to, comes_value, comes_fault, comes_done, ends_with}
 use Rattle.fault_defs.specs.declared.Refusal.{Refusal}
 use Rattle.rx_store.specs.Answers.{Answers}

@@ -6,7 +6,8 @@ use Rattle.range_defs.specs.declared.Range.{Range}
 use Rattle.range_defs.specs.declared.TheConstants.{LONGEST_IMAGE}
 use Rattle.rx_ranges.specs.declared.pieces.Piece.{Piece}
 use Rattle.image_defs.specs.Ask.{Ask, ◌>>=◌}
-use Rattle.image_reads.specs.Steps.{IsCome, ReadsAs}
+use Rattle.image_reads.specs.Steps.{ReadsAs}
+use Rattle.image_reads.proofs.Coming.{IsCome}
 use Rattle.image_reads.proofs.Steps.{begins, comes_past, comes_value, comes_fault, comes_rest, comes_stop, ends_with}
 use Rattle.fault_defs.specs.declared.Refusal.{Refusal}
 use Rattle.fault_defs.specs.declared.Refusal.TheVariants as refusal

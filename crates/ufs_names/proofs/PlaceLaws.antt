@@ -1,13 +1,13 @@
 -- The blocks of a directory, one after the other, and the pieces that are passed.
 use Rattle.std.specs.Prelude.{◌≡◌, ℕ, suc, ◌+◌, ◌-◌, ◌*◌, ◌<◌, ◌≤◌, Result, Ok, Err, IsErr, IsErrAnd, List, [], ◌∷◌, refl}
 use Rattle.std.proofs.Common.{arith, ap, sym, subst, ◌∙◌}
-use Rattle.image_defs.specs.Runs.{with_value, in_front_of, each_result}
+use Rattle.image_defs.specs.Results.{with_value, in_front_of, each_result}
 use Rattle.rx_ranges.specs.declared.pieces.Piece.{Piece}
 use Rattle.piece_defs.specs.Places.{place_through}
 use Rattle.fault_defs.specs.declared.Refusal.{Refusal}
 use Rattle.rx_store.specs.Answers.{Answers}
 use Rattle.rx_store.specs.declared.read_fault.ReadFault.{ReadFault}
-use Rattle.rx_store.specs.declared.read_fault.ReadFault.TheVariants.{Device, NoMemory, NotThis, Damaged, Unsupported, Limit}
+use Rattle.image_reads.proofs.Steps.{fault_says}
 use Rattle.ufs_inode_defs.specs.Numbers.{numbers_from}
 use Rattle.ufs_inode_defs.specs.Superblock.{block_size}
 use Rattle.ufs_inode_defs.specs.Stream.{block_count}
@@ -56,12 +56,7 @@ tested_front block (Err e) = refl
 -- a refusal of the first block is one of all
 fault_first : (fault : ReadFault) (first : Result Block Refusal) (rest : Result (List Block) Refusal) → (let one : Result Block ReadFault = Err fault in Answers one first)
     → (let all : Result (Unit {0}) ReadFault = Err fault in Answers all (tested (in_front_of first rest)))
-fault_first Device first rest says = tt
-fault_first NoMemory first rest says = tt
-fault_first NotThis first rest says = ap (λ one. tested (in_front_of one rest)) says
-fault_first (Damaged sort place) first rest says = ap (λ one. tested (in_front_of one rest)) says
-fault_first (Unsupported what place) first rest says = ap (λ one. tested (in_front_of one rest)) says
-fault_first (Limit bound number) first rest says = ap (λ one. tested (in_front_of one rest)) says
+fault_first fault first rest says = fault_says fault first (tested (in_front_of first rest)) (λ e stops. ap (λ one. tested (in_front_of one rest)) stops) says
 
 module _ (sup : Super) (inode : Inode) (pieces : List Piece) where
   pub blocks_all : directory_blocks sup inode pieces ≡ blocks_from sup inode pieces 0

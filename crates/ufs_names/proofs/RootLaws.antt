@@ -2,7 +2,8 @@
 use Rattle.std.specs.Prelude.{◌≡◌, ℕ, true, false, IsErr, IsErrAnd, Option, Result, Ok, Err, List, refl}
 use Rattle.range_defs.specs.declared.Range.{Range}
 use Rattle.image_defs.specs.Ask.{Done, check, ◌>>=◌}
-use Rattle.image_reads.specs.Steps.{IsCome, ReadsAs}
+use Rattle.image_reads.specs.Steps.{ReadsAs}
+use Rattle.image_reads.proofs.Coming.{IsCome}
 use Rattle.image_reads.proofs.Steps.{begins, comes_past, comes_value, comes_fault, comes_rest, comes_stop, comes_done, ends_with}
 use Rattle.fault_defs.specs.declared.Refusal.TheVariants as refusal
 use Rattle.fault_defs.specs.declared.Sort.TheVariants.{RootKind}

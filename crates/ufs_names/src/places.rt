@@ -1,6 +1,6 @@
 //! Where the blocks of a directory stand.
 ghost use Rattle.std.specs.Prelude.{◌≡◌, ◌+◌, ◌*◌, ◌^◌, ◌≤◌, ◌<◌, ◌≢◌, Err, IfOk, None, nat_lt};
-ghost use Rattle.image_defs.specs.Runs.{with_value};
+ghost use Rattle.image_defs.specs.Results.{with_value};
 ghost use Rattle.piece_defs.specs.Places as places_spec;
 ghost use Rattle.piece_defs.specs.Places.{AreWithin, IsWithin, place_through};
 ghost use Rattle.range_defs.specs.declared.TheConstants.{LONGEST_IMAGE};

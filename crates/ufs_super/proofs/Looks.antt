@@ -6,7 +6,7 @@ use Rattle.bytes_defs.specs.Bytes.{part}
 use Rattle.bytes_defs.specs.declared.order.Order.{Order}
 use Rattle.bytes_defs.specs.declared.order.Order.TheVariants.{Little}
 use Rattle.image_defs.specs.Ask.{Stop, result_of, visits}
-use Rattle.image_defs.proofs.Runs.{result_given, visits_given}
+use Rattle.image_defs.proofs.Results.{result_given, visits_given}
 use Rattle.fault_defs.specs.declared.Refusal.{Refusal}
 use Rattle.fault_defs.specs.declared.Refusal.TheVariants.{NotThis}
 use Rattle.image_reads.specs.Steps.{ReadsAs}

@@ -9,7 +9,7 @@ use Rattle.bytes_defs.specs.Numbers.{number_at}
 use Rattle.bytes_defs.specs.declared.order.Order.{Order}
 use Rattle.bytes_defs.specs.declared.order.Order.TheVariants.{Little}
 use Rattle.image_defs.specs.Ask.{Stop, result_of}
-use Rattle.image_defs.proofs.Runs.{result_given}
+use Rattle.image_defs.proofs.Results.{result_given}
 use Rattle.fault_defs.specs.declared.Refusal.{Refusal}
 use Rattle.fault_defs.specs.declared.Refusal.TheVariants.{NotThis}
 use Rattle.rx_store.specs.Answers.{Answers}

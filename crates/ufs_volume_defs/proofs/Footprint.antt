@@ -5,7 +5,7 @@ use Rattle.range_defs.specs.declared.Range.{Range}
 use Rattle.bytes_defs.specs.declared.order.Order.{Order}
 use Rattle.image_defs.specs.Ask.{result_of}
 use Rattle.image_defs.specs.Agreement.{AgreeOn}
-use Rattle.image_defs.specs.Runs.{with_value}
+use Rattle.image_defs.specs.Results.{with_value}
 use Rattle.image_defs.proofs.Guard.{looked_at, result_guarded, looked_at_guarded}
 use Rattle.ufs_volume_defs.specs.Volume.{volume_at, guard_of, tree_of, volume_tree, UfsFootprintLaw}
 

@@ -8,7 +8,7 @@ use Rattle.range_defs.specs.Places.{in_range, covers, IsRangeList, longest_range
 use Rattle.range_defs.proofs.RangeLaws.{same_as_longest_ranges, ends_where_covered}
 use Rattle.bytes_defs.specs.declared.order.Order.TheVariants.{Little}
 use Rattle.image_defs.specs.Ask.{result_of, visits}
-use Rattle.image_defs.specs.Runs.{with_value}
+use Rattle.image_defs.specs.Results.{with_value}
 use Rattle.rx_ranges.specs.declared.pieces.PieceKind.TheVariants.{Disk}
 use Rattle.rx_tree.specs.TreeValue.{TreeValue}
 use Rattle.rx_tree.specs.declared.file.FileEntry.{FileEntry}

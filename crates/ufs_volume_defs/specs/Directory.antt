@@ -6,7 +6,7 @@ use Rattle.std.specs.Str.{bytes_eq}
 use Rattle.bytes_defs.specs.Bytes.{part}
 use Rattle.bytes_defs.specs.Numbers.{number_at}
 use Rattle.bytes_defs.specs.declared.order.Order.{Order}
-use Rattle.image_defs.specs.Runs.{with_value}
+use Rattle.image_defs.specs.Results.{with_value}
 
 -- an entry: its place in some bytes of a directory, the inode that it names, its length, and its name
 pub record Entry : Type 0 where

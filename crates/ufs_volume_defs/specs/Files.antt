@@ -32,12 +32,18 @@ pub record Section : Type 0 where
   pub name : List ℕ
   pub stream : Stream
 
+abbrev pub content_section : Super → Inode → Section
+content_section sup inode = record { role = roles.Content; name = []; stream = content_stream sup inode }
+
+abbrev pub extended_section : Inode → Section
+extended_section inode = record { role = roles.Other; name = codes "ext"; stream = extended_stream inode }
+
 -- a link whose target stands in the inode has no content
 abbrev pub content_sections : Super → Inode → List Section
-content_sections sup inode = if is_short_link sup inode then [] else (record { role = roles.Content; name = []; stream = content_stream sup inode } ∷ [])
+content_sections sup inode = if is_short_link sup inode then [] else (content_section sup inode ∷ [])
 
 abbrev pub extended_sections : Inode → List Section
-extended_sections inode = if inode.extsize == 0 then [] else (record { role = roles.Other; name = codes "ext"; stream = extended_stream inode } ∷ [])
+extended_sections inode = if inode.extsize == 0 then [] else (extended_section inode ∷ [])
 
 -- devices, pipes and sockets have no parts
 abbrev pub sections_by : Kind → Super → Inode → List Section

@@ -2,7 +2,7 @@
 use Rattle.std.specs.Prelude.{ℕ, zero, suc, ◌+◌, ◌*◌, ◌%◌, Bool, not, ◌&&◌, ◌==◌, nat_le, Option, Some, None, Result, Ok, Err, List, [], ◌∷◌, ◌++◌, length, drop}
 use Rattle.std.specs.List.{list_any, filter, sum_by}
 use Rattle.image_defs.specs.Ask.{Ask, Done, Stop, look, check, given, ◌>>=◌, ◌>>◌}
-use Rattle.image_defs.specs.Runs.{each_result}
+use Rattle.image_defs.specs.Results.{each_result}
 use Rattle.image_defs.specs.Through.{through}
 use Rattle.rx_ranges.specs.declared.pieces.Piece.{Piece}
 use Rattle.piece_defs.specs.Places.{place_through}

@@ -6,7 +6,7 @@ use Rattle.range_defs.specs.Places.{covers, longest_ranges}
 use Rattle.bytes_defs.specs.declared.order.Order.{Order}
 use Rattle.image_defs.specs.Ask.{Ask, Done, result_of, visits, check, ◌>>=◌, ◌>>◌}
 use Rattle.image_defs.specs.Agreement.{AgreeOn}
-use Rattle.image_defs.specs.Runs.{with_value}
+use Rattle.image_defs.specs.Results.{with_value}
 use Rattle.rx_tree.specs.TreeValue.{TreeValue}
 use Rattle.rx_tree.specs.declared.file.FileEntry.{FileEntry}
 use Rattle.rx_tree.specs.declared.volume.FsKind.{FsKind}

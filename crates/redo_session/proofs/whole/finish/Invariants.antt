@@ -1,5 +1,5 @@
 use Rattle.std.proofs.Common.{◌≡◌}
-use Rattle.redo_session.specs.Sessions.{IsUnderWay, turns_left}
+use Rattle.redo_session.proofs.TurnLaws.{IsUnderWay, turns_left}
 use Rattle.redo_session.proofs.whole.finish.Given as goal
 
 -- the session is under way, and no call failed

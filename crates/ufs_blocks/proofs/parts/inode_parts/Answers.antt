@@ -1,6 +1,6 @@
 use Rattle.std.proofs.Common.{ap, sym, ◌∙◌, [], ◌∷◌, ◌++◌, refl}
 use Rattle.disk_defs.specs.Disk.{told_image}
-use Rattle.ufs_blocks.specs.Sections.{content_section}
+use Rattle.ufs_volume_defs.specs.Files.{content_section}
 use Rattle.ufs_blocks.proofs.PlacedLaws.{found_part, bare_placed, filled_placed}
 use Rattle.ufs_blocks.proofs.PartLaws.{bare_reads, content_fault, content_reads}
 use Rattle.ufs_blocks.proofs.parts.inode_parts.Goals as goal

@@ -1,6 +1,7 @@
 use Rattle.std.proofs.Common.{◌≡◌, ◌+◌, ◌-◌, ◌*◌, drop}
 use Rattle.disk_defs.specs.Disk.{told_image}
-use Rattle.image_reads.specs.Steps.{IsCome, KeptWithin}
+use Rattle.image_reads.specs.Steps.{KeptWithin}
+use Rattle.image_reads.proofs.Coming.{IsCome}
 use Rattle.image_defs.specs.Through.{through}
 use Rattle.ufs_inode_defs.specs.Blocks.{mapped_blocks, pointers_in}
 use Rattle.ufs_inode_defs.specs.Stream.{span}

@@ -1,7 +1,7 @@
 use Rattle.std.proofs.Common.{◌+◌, ◌≤◌, [], List, length, drop, ap, sym, subst, ◌∙◌, rules}
 use Rattle.disk_defs.specs.Disk.{State, told_image, size_of}
 use Rattle.disk_defs.specs.declared.Area.TheVariants.{Image}
-use Rattle.image_reads.specs.Steps.{IsCome}
+use Rattle.image_reads.proofs.Coming.{IsCome}
 use Rattle.image_defs.specs.Through.{through}
 use Rattle.ufs_volume_defs.specs.Files.{Filed, named_files, number_file, numbers_of}
 use Rattle.ufs_files.specs.Groups.{Group, AreGroupsOf}

@@ -1,6 +1,6 @@
 use Rattle.std.proofs.Common.{◌≡◌, ◌+◌, ◌≤◌, length, drop}
 use Rattle.disk_defs.specs.Disk.{told_image}
-use Rattle.image_reads.specs.Steps.{IsCome}
+use Rattle.image_reads.proofs.Coming.{IsCome}
 use Rattle.image_defs.specs.Through.{through}
 use Rattle.ufs_inode_defs.specs.Blocks.{most_runs}
 use Rattle.ufs_volume_defs.specs.Files.{number_file, numbers_of, named_files}

@@ -1,6 +1,6 @@
 use Rattle.std.proofs.Common.{◌≡◌, ◌+◌, drop}
 use Rattle.disk_defs.specs.Disk.{told_image}
-use Rattle.image_reads.specs.Steps.{IsCome}
+use Rattle.image_reads.proofs.Coming.{IsCome}
 use Rattle.image_defs.specs.Through.{through}
 use Rattle.ufs_volume_defs.specs.Names.{entry_name}
 use Rattle.ufs_inode.specs.Block.{IsBlockOf}

@@ -2,7 +2,7 @@ use Rattle.std.specs.Prelude.{◌≡◌, List, length}
 use Rattle.std.specs.List.{All}
 use Rattle.std.proofs.Common.{ℕ, ◌+◌, ◌-◌, ap, sym, subst, ◌∙◌, arith}
 use Rattle.disk_defs.specs.Disk.{told_image}
-use Rattle.image_reads.specs.Steps.{IsCome}
+use Rattle.image_reads.proofs.Coming.{IsCome}
 use Rattle.ufs_volume_defs.specs.Names.{Named, directories_behind, names_below}
 use Rattle.ufs_names.specs.Walked.{IsNamed}
 use Rattle.ufs_names.proofs.WalkLaws.{kept_on}

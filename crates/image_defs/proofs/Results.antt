@@ -1,10 +1,10 @@
--- Laws behind Runs: what the parts of a program give and look at, for each way to put programs together.
+-- Laws behind Results: what the parts of a program give and look at, for each way to put programs together.
 use Rattle.std.specs.Prelude.{◌≡◌, ℕ, Bool, true, false, Result, Ok, Err, List, [], ◌∷◌, ◌++◌, refl}
 use Rattle.std.proofs.Common.{ap, ◌∙◌}
 use Rattle.range_defs.specs.declared.Range.{Range}
 use Rattle.bytes_defs.specs.Bytes.{part}
 use Rattle.image_defs.specs.Ask.{Ask, Done, Stop, Look, result_of, visits, ◌>>=◌, check, given, each}
-use Rattle.image_defs.specs.Runs.{each_result, in_front_of, with_value}
+use Rattle.image_defs.specs.Results.{each_result, in_front_of, with_value}
 
 -- what the next program gives after a first result: a fault stays, and a value goes on
 abbrev pub result_next : {E X Y : Type 0} → List ℕ → Result X E → (X → Ask E Y) → Result Y E

@@ -1,4 +1,4 @@
--- A file of a volume as the tree of an image has it.
+-- A file of a volume as the tree of an image is to have it, by which its rows are worked out: no command reads NTFS yet.
 use Rattle.std.specs.Prelude.{ℕ, nat_lt, if◌then◌else◌, Some, None, List}
 use Rattle.order_defs.specs.Sorted.{sorted_by_order, sorted_names}
 use Rattle.rx_tree.specs.PartOrder.{part_cmp}

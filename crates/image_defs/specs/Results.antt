@@ -1,4 +1,4 @@
--- What the parts of a program give and look at, for each way to put programs together.
+-- What the parts of a program give, for each way to put programs together.
 use Rattle.std.specs.Prelude.{Result, Ok, Err, List, [], ◌∷◌}
 
 -- a result whose value a function changes
