@@ -3,7 +3,7 @@
 //! A stored record of 1,024 or 4,096 bytes keeps the last two bytes of each 512 in its update sequence (the public
 //! FILE_RECORD_SEGMENT_HEADER and MULTI_SECTOR_HEADER). `FileRecord::mend` puts them back, or refuses by the first check that
 //! fails; `attrs` goes over the attributes and lends slices of the buffer; `stored_place` tells where a byte of the record is
-//! stored. Nothing is copied, and no memory is taken.
+//! stored.
 //!
 //!     let found = FileRecord::mend(&mut buffer)?;
 //!     for attribute in found.attrs() { /* attribute.kind, attribute.name, attribute.form */ }

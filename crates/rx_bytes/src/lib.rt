@@ -22,7 +22,7 @@ use bytes_defs::Order::{Big, Little};
 use bytes_defs::{i32_at, i64_at, u16_at, u32_at, u64_at};
 use std::marker::Model;
 
-/// A slice of bytes whose fields are read at places. It lends the slice and copies nothing.
+/// A borrowed slice of bytes whose fields are read at places.
 #[derive(Debug, Drop)]
 pub struct View<'a> {
     bytes: &'a [u8],

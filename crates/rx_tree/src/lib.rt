@@ -1,8 +1,8 @@
 //! What a reader of an image finds: volumes, files, their names and parts, and the bytes that all this rests on.
 //!
 //! A `Tree` has the files of an image by rising id. A file has all its names, as printed paths sorted by their bytes, its mode,
-//! links, owner and times where the file system says them, and its parts: runs of the image that hold its bytes (`Pieces`), and
-//! the slack. The types keep their order and their bounds as invariants, so whoever holds a tree knows that all of it lies in the
+//! links, owner and times where the file system says them, and its parts: the pieces of the image that hold its bytes (`Pieces`),
+//! and the slack. The types keep their order and their bounds as invariants, so whoever holds a tree knows that all of it lies in the
 //! image.
 //!
 //!     join_path(alloc, &directory, &name)?      // "/" and "a" give "/a", "/b" and "a" give "/b/a"

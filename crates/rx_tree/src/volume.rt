@@ -4,7 +4,7 @@ ghost use Rattle.rx_tree.specs.Order.{HaveRisingNumbers};
 
 use std::marker::Model;
 
-/// The file systems that are read.
+/// The kinds of file systems that a tree can name.
 #[derive(Clone, Copy, Debug, PartialEq, Eq)]
 pub enum FsKind {
     Ntfs,

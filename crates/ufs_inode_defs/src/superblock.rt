@@ -13,7 +13,7 @@ pub struct Super {
     pub order: Order,
     /// The fragment in a group at which its inodes begin.
     pub iblkno: i32,
-    /// The fragment in a group at which its own data begins.
+    /// The fragment in a group at which the block that describes the group begins.
     pub cblkno: i32,
     /// How the starts of groups move in UFS1.
     pub old_cgoffset: i32,
