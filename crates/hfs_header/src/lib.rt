@@ -20,7 +20,7 @@ ghost use Rattle.image_defs.specs.Ask.{result_of};
 ghost use Rattle.rx_store.specs.Answers.{Answers};
 ghost use Rattle.rx_store.specs.ReadFaults.{IsReadCounted};
 
-pub use hfs_defs::{Extent, Fork, Header};
+use hfs_defs::Header;
 use rx_store::{Area, Fault, ReadFault, Sort, Store};
 
 /// The bytes of the image from a place on, a fixed number of them.

@@ -2,7 +2,8 @@
 ghost use Rattle.std.specs.Prelude.{◌≡◌, IfOk, length};
 ghost use Rattle.disk_defs.specs.Memory.{held_in_memory};
 
-use super::{Extent, read_header};
+use super::read_header;
+use hfs_defs::Extent;
 use rx_store::{MemStore, ReadFault, Sort, Store};
 use std::alloc::{AllocError, Global};
 use std::test::Fail;

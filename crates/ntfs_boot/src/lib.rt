@@ -25,7 +25,7 @@ ghost use Rattle.ntfs_volume_defs.specs.Boot.{boot_at};
 ghost use Rattle.ntfs_boot.specs.Sector.{IsSoundBoot, IsBootRefusal};
 
 use crate::sector::boot_from;
-pub use ntfs_volume_defs::Boot;
+use ntfs_volume_defs::Boot;
 use rx_store::{Area, Fault, ReadFault, Store};
 
 /// The bytes of the sector at a place of the image.

@@ -21,5 +21,4 @@ mod walk;
 pub use attr::{Attr, Form};
 pub use attrs::Attrs;
 pub use mend::mend_bytes;
-pub use ntfs_record_defs::RecordFault;
 pub use record::FileRecord;

@@ -1,5 +1,6 @@
 //! Records that are worked out by hand.
 use super::*;
+use ntfs_record_defs::RecordFault;
 use std::test::Fail;
 
 /// A stored record of 1,024 bytes with its array at 48 and the check number 0xBBAA. The true bytes of the ends are 1 to

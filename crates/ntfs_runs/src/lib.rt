@@ -15,5 +15,4 @@ mod tests;
 pub(crate) mod written;
 
 pub use decode::decode_runs;
-pub use ntfs_defs::{Run, RunFault};
 pub use runs::Runs;

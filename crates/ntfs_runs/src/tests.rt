@@ -2,6 +2,7 @@
 ghost use Rattle.std.specs.Prelude.{◌≡◌};
 
 use super::*;
+use ntfs_defs::{Run, RunFault};
 use std::test::Fail;
 
 /// A volume that is larger than all that the lists name.

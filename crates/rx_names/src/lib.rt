@@ -20,7 +20,6 @@ mod word;
 mod xml;
 
 pub use name::{NameRef, print_name};
-pub use rx_ranges::Text;
 pub use word::print_word;
 pub use xml::xml_text;
 

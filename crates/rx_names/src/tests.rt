@@ -1,5 +1,6 @@
 //! Examples with values that are worked out by hand.
 use super::*;
+use rx_ranges::Text;
 use std::alloc::Global;
 use std::process::Abort;
 use std::test::Fail;

@@ -22,7 +22,6 @@ pub use blocks::{Blocks, blocks_of};
 pub use laid::{Laid, Parted};
 pub use parts::inode_parts;
 pub use streams::content_blocks;
-pub use ufs_inode_defs::{Inode, Super};
 
 #[cfg(test)]
 mod tests;

@@ -19,7 +19,6 @@ mod tested;
 
 pub use block::InodeBlock;
 pub use read::{look_at_inode, read_inode};
-pub use ufs_inode_defs::Inode;
 
 #[cfg(test)]
 mod tests;

@@ -19,7 +19,6 @@ pub use read::{look_for_super, read_bytes, read_super};
 pub use sizes::{
     allocated_len, block_count, block_size, content_len, fragment_size, pointer_len, span,
 };
-pub use ufs_inode_defs::Super;
 
 #[cfg(test)]
 mod tests;
