@@ -20,7 +20,7 @@ use Rattle.hfs_defs.specs.declared.header.Header.{Header}
 use Rattle.rx_store.specs.Answers.{Answers}
 use Rattle.rx_store.specs.declared.read_fault.ReadFault.{ReadFault}
 use Rattle.rx_store.specs.declared.read_fault.ReadFault.TheVariants as read
-use Rattle.hfs_extents.specs.declared.fork.ForkRuns.{ForkRuns}
+use Rattle.hfs_extents.specs.declared.fork.ForkPieces.{ForkPieces}
 use Rattle.hfs_extents.specs.Found.{found_in}
 use Rattle.hfs_extents.specs.Overflow.{overflow_within, LeadsOn}
 
@@ -69,13 +69,13 @@ refuses header sum image refusal ends is same found =
     ∙ result_bind_err image (leaf_records header) (λ leaves. given (overflow_records leaves)) refusal (fork_leaves_refused image header [] header.extents (extents_at header) refusal found)
 
 -- the fork of the extents file leads on, where its eight extents are all its blocks
-pub leads : (header : Header) (sum : ℕ) (result : Result ForkRuns ReadFault) → header.at + header.len ≤ LONGEST_IMAGE → sum ≡ blocks_in header.extents.extents → sum ≡ header.extents.total_blocks
+pub leads : (header : Header) (sum : ℕ) (result : Result ForkPieces ReadFault) → header.at + header.len ≤ LONGEST_IMAGE → sum ≡ blocks_in header.extents.extents → sum ≡ header.extents.total_blocks
     → Answers (found_in result) (found_fork header [] header.extents (extents_at header)) → LeadsOn header result
-leads header sum (Ok runs) ends is same found = λ image.
+leads header sum (Ok laid) ends is same found = λ image.
     own_sum header image sum ends is same
-    ∙ result_bind_ok image (leaf_records header) (λ leaves. given (overflow_records leaves)) (leaves_of (tree_file (bytes_through image runs.pieces) runs.pieces (extents_at header)))
-    (fork_leaves_found image header [] header.extents (extents_at header) (record { pieces = runs.pieces; slack = runs.slack }) found)
-    ∙ result_given image (overflow_records (leaves_of (tree_file (bytes_through image runs.pieces) runs.pieces (extents_at header))))
+    ∙ result_bind_ok image (leaf_records header) (λ leaves. given (overflow_records leaves)) (leaves_of (tree_file (bytes_through image laid.pieces) laid.pieces (extents_at header)))
+    (fork_leaves_found image header [] header.extents (extents_at header) (record { pieces = laid.pieces; slack = laid.slack }) found)
+    ∙ result_given image (overflow_records (leaves_of (tree_file (bytes_through image laid.pieces) laid.pieces (extents_at header))))
 leads header sum (Err read.Device) ends is same found = λ image. tt
 leads header sum (Err read.NoMemory) ends is same found = λ image. tt
 leads header sum (Err read.NotThis) ends is same found = λ image. refuses header sum image NotThis ends is same found

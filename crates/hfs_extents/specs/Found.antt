@@ -9,11 +9,11 @@ use Rattle.fault_defs.specs.declared.Sort.{Sort}
 use Rattle.fault_defs.specs.declared.Sort.TheVariants.{ForkExtent, ForkSum}
 use Rattle.rx_store.specs.declared.read_fault.ReadFault.{ReadFault}
 use Rattle.rx_store.specs.declared.read_fault.ReadFault.TheVariants.{Device, NoMemory, NotThis, Damaged, Unsupported, Limit}
-use Rattle.hfs_extents.specs.declared.fork.ForkRuns.{ForkRuns}
+use Rattle.hfs_extents.specs.declared.fork.ForkPieces.{ForkPieces}
 
 -- the pieces and the slack that an answer has
-abbrev pub found_in : Result ForkRuns ReadFault → Result FoundFork ReadFault
-found_in (Ok runs) = Ok (record { pieces = runs.pieces; slack = runs.slack })
+abbrev pub found_in : Result ForkPieces ReadFault → Result FoundFork ReadFault
+found_in (Ok laid) = Ok (record { pieces = laid.pieces; slack = laid.slack })
 found_in (Err fault) = Err fault
 
 -- the faults of a fork whose fork data stand at a place: no memory, an extent that passes the volume, or another sum
@@ -27,8 +27,8 @@ IsForkRefusal place (Limit bound number) = ⊥
 
 -- what an answer says of a fork: no clause of one that is found is false, and what is damaged has a clause that is false at
 -- that place
-abbrev pub TellsFork : Header → List OverflowRecord → Fork → ℕ → Result ForkRuns ReadFault → Type 0
-TellsFork header records fork place (Ok runs) = (sort : Sort) (at : ℕ) → IsFalseInFork header records fork place sort at → ⊥
+abbrev pub TellsFork : Header → List OverflowRecord → Fork → ℕ → Result ForkPieces ReadFault → Type 0
+TellsFork header records fork place (Ok laid) = (sort : Sort) (at : ℕ) → IsFalseInFork header records fork place sort at → ⊥
 TellsFork header records fork place (Err Device) = ⊥
 TellsFork header records fork place (Err NoMemory) = Unit {0}
 TellsFork header records fork place (Err NotThis) = ⊥

@@ -17,7 +17,7 @@ use Rattle.hfs_defs.specs.declared.header.Header.{Header}
 use Rattle.rx_store.specs.Answers.{Answers}
 use Rattle.rx_store.specs.declared.read_fault.ReadFault.{ReadFault}
 use Rattle.rx_store.specs.declared.read_fault.ReadFault.TheVariants.{Device, NoMemory, NotThis, Damaged, Unsupported, Limit}
-use Rattle.hfs_extents.specs.declared.fork.ForkRuns.{ForkRuns}
+use Rattle.hfs_extents.specs.declared.fork.ForkPieces.{ForkPieces}
 
 -- the overflow records of a volume, where it ends in the longest image
 unfoldable pub overflow_within : Header → Ask Refusal (List OverflowRecord)
@@ -31,9 +31,9 @@ IsNear leaf = leaf.at ≤ LONGEST_IMAGE
 
 -- The overflow records of a volume are those of the extents file in the pieces that are found. Where no pieces are found,
 -- the fault is the answer.
-abbrev pub LeadsOn : Header → Result ForkRuns ReadFault → Type 0
-LeadsOn header (Ok runs) =
-    (image : List ℕ) → result_of image (overflow_within header) ≡ overflow_records (leaves_of (tree_file (bytes_through image runs.pieces) runs.pieces (extents_at header)))
+abbrev pub LeadsOn : Header → Result ForkPieces ReadFault → Type 0
+LeadsOn header (Ok laid) =
+    (image : List ℕ) → result_of image (overflow_within header) ≡ overflow_records (leaves_of (tree_file (bytes_through image laid.pieces) laid.pieces (extents_at header)))
 LeadsOn header (Err fault) = (image : List ℕ) → Answers (Err fault) (result_of image (overflow_within header))
 
 -- the faults of reading a leaf record of the extents file

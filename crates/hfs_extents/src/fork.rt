@@ -18,7 +18,7 @@ use std::alloc::{AllocError, Global};
 
 /// What is found of a fork: the pieces of its bytes, and its slack, which is what its blocks have behind them.
 #[derive(Debug, Drop)]
-pub struct ForkRuns {
+pub struct ForkPieces {
     pub pieces: Pieces,
     pub slack: RangeList,
 }
@@ -39,22 +39,22 @@ fn all_extents(
 }
 
 /// The pieces and the slack of a fork with these overflow records, whose fork data stand at a place.
-pub(crate) fn fork_runs(
+pub(crate) fn pieces_and_slack(
     alloc: Global,
     header: &Header,
     records: &[OverflowRecord],
     fork: &Fork,
     place: u64,
-) -> Result<ForkRuns, ReadFault>
+) -> Result<ForkPieces, ReadFault>
     requires sound { IsSoundHeader header.now }
     requires ends { header.now.at + header.now.len ≤ LONGEST_IMAGE }
     requires near { place < 2 ^ 62 }
     requires records_near { AreNear records.now }
     ensures found { Answers (found_in result) (found_fork header.now records.now fork.now place) }
     ensures tells { TellsFork header.now records.now fork.now place result }
-    ensures placed { IfOk result (λ runs. ArePiecesAt (byte_place header.now (extents_with records.now fork.now)) fork.now.logical_size runs.pieces) }
-    ensures covered { IfOk result (λ runs. AreInARow 0 fork.now.logical_size runs.pieces) }
-    ensures within { IfOk result (λ runs. AreWithin (header.now.at + header.now.len) runs.pieces) }
+    ensures placed { IfOk result (λ laid. ArePiecesAt (byte_place header.now (extents_with records.now fork.now)) fork.now.logical_size laid.pieces) }
+    ensures covered { IfOk result (λ laid. AreInARow 0 fork.now.logical_size laid.pieces) }
+    ensures within { IfOk result (λ laid. AreWithin (header.now.at + header.now.len) laid.pieces) }
     ensures refusals { IfErr result (IsForkRefusal place) }
 {
     if let Some(refusal) = fork_fault(header, records, fork, place) {
@@ -62,7 +62,7 @@ pub(crate) fn fork_runs(
     }
     let list = all_extents(alloc, records, fork)?;
     let extents = list.as_slice();
-    Ok(ForkRuns {
+    Ok(ForkPieces {
         pieces: pieces_of(alloc, header, fork.logical_size, extents)?,
         slack: slack_of(alloc, header, fork.logical_size, extents)?,
     })

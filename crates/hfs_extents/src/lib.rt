@@ -7,8 +7,8 @@
 //! blocks that aren't those of the fork (ForkSum).
 //!
 //!     let overflow = Overflow::read(alloc, &mut store, &header)?;
-//!     let runs = fork_pieces(alloc, &header, &overflow, file, fork_type, &fork, place)?;
-//!     runs.pieces.items()     // in the order of the bytes, as long as possible
+//!     let laid = fork_pieces(alloc, &header, &overflow, file, fork_type, &fork, place)?;
+//!     laid.pieces.items()     // in the order of the bytes, as long as possible
 #![tactic(auto)]
 
 mod extents;
@@ -18,7 +18,7 @@ mod overflow;
 mod pieces;
 mod records;
 
-pub use fork::ForkRuns;
+pub use fork::ForkPieces;
 pub use overflow::{Overflow, fork_pieces};
 
 #[cfg(test)]

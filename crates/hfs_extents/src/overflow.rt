@@ -16,7 +16,7 @@ ghost use Rattle.rx_store.specs.Answers.{Answers};
 ghost use Rattle.rx_store.specs.ReadFaults.{IsReadCounted};
 
 use crate::extents::blocks_in;
-use crate::fork::{ForkRuns, fork_runs};
+use crate::fork::{ForkPieces, pieces_and_slack};
 use crate::index::{Entry, index_of, records_of};
 use crate::records::read_records;
 use hfs_btree::Leaves;
@@ -47,13 +47,13 @@ impl Model for Overflow {
 }
 
 /// The pieces of the extents file, which has its eight extents alone.
-fn extents_runs(alloc: Global, header: &Header) -> Result<ForkRuns, ReadFault>
+fn extents_pieces(alloc: Global, header: &Header) -> Result<ForkPieces, ReadFault>
     requires sound { IsSoundHeader header.now }
     requires fits { header.now.at + header.now.len < 2 ^ 64 }
     ensures leads { LeadsOn header.now result }
-    ensures within { IfOk result (λ runs. AreWithin (header.now.at + header.now.len) runs.pieces) }
-    ensures covered { IfOk result (λ runs. AreInARow 0 header.now.extents.logical_size runs.pieces) }
-    ensures near { IfOk result (λ runs. header.now.at + header.now.len ≤ LONGEST_IMAGE) }
+    ensures within { IfOk result (λ laid. AreWithin (header.now.at + header.now.len) laid.pieces) }
+    ensures covered { IfOk result (λ laid. AreInARow 0 header.now.extents.logical_size laid.pieces) }
+    ensures near { IfOk result (λ laid. header.now.at + header.now.len ≤ LONGEST_IMAGE) }
     ensures refusals { IfErr result (IsExtentsRefusal header.now) }
 {
     if header.at + header.len > LONGEST_IMAGE {
@@ -64,7 +64,7 @@ fn extents_runs(alloc: Global, header: &Header) -> Result<ForkRuns, ReadFault>
     if blocks_in(&fork.extents) != u64::from(fork.total_blocks) {
         return Err(ReadFault::Unsupported(What::ExtentsFork, place));
     }
-    fork_runs(alloc, header, &[], fork, place)
+    pieces_and_slack(alloc, header, &[], fork, place)
 }
 
 impl Overflow {
@@ -81,8 +81,8 @@ impl Overflow {
         ensures same { S.state store.new ≡ S.state store.old }
         ensures counted { IsReadCounted Image result (S.faults store.old) (S.faults store.new) }
     {
-        let runs = extents_runs(alloc, header)?;
-        let ForkRuns { pieces, .. } = runs;
+        let laid = extents_pieces(alloc, header)?;
+        let ForkPieces { pieces, .. } = laid;
         let leaves = Leaves::start(
             alloc,
             store,
@@ -105,15 +105,15 @@ pub fn fork_pieces(
     fork_type: u8,
     fork: &Fork,
     place: u64,
-) -> Result<ForkRuns, ReadFault>
+) -> Result<ForkPieces, ReadFault>
     requires sound { IsSoundHeader header.now }
     requires ends { header.now.at + header.now.len ≤ LONGEST_IMAGE }
     requires near { place ≤ 140737488355328 }
     ensures found { Answers (found_in result) (found_fork header.now (spec.records_of overflow.now file fork_type) fork.now place) }
     ensures tells { TellsFork header.now (spec.records_of overflow.now file fork_type) fork.now place result }
-    ensures placed { IfOk result (λ runs. ArePiecesAt (byte_place header.now (extents_with (spec.records_of overflow.now file fork_type) fork.now)) fork.now.logical_size runs.pieces) }
-    ensures covered { IfOk result (λ runs. AreInARow 0 fork.now.logical_size runs.pieces) }
-    ensures within { IfOk result (λ runs. AreWithin (header.now.at + header.now.len) runs.pieces) }
+    ensures placed { IfOk result (λ laid. ArePiecesAt (byte_place header.now (extents_with (spec.records_of overflow.now file fork_type) fork.now)) fork.now.logical_size laid.pieces) }
+    ensures covered { IfOk result (λ laid. AreInARow 0 fork.now.logical_size laid.pieces) }
+    ensures within { IfOk result (λ laid. AreWithin (header.now.at + header.now.len) laid.pieces) }
     ensures refusals { IfErr result (IsForkRefusal place) }
 {
     let records = records_of(
@@ -123,5 +123,5 @@ pub fn fork_pieces(
         file,
         fork_type,
     )?;
-    fork_runs(alloc, header, &records, fork, place)
+    pieces_and_slack(alloc, header, &records, fork, place)
 }

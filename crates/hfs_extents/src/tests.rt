@@ -3,7 +3,7 @@ ghost use Rattle.std.specs.Prelude.{◌≡◌, ◌+◌, ◌≤◌, length, IfOk}
 ghost use Rattle.hfs_defs.specs.Header.{IsSoundHeader};
 ghost use Rattle.disk_defs.specs.Memory.{held_in_memory};
 
-use crate::fork::ForkRuns;
+use crate::fork::ForkPieces;
 use crate::overflow::{Overflow, fork_pieces};
 use hfs_defs::{Extent, Fork, Header};
 use range_defs::Range;
@@ -189,9 +189,9 @@ fn places(
     requires small { header.now.at + header.now.len ≤ 65536 }
 {
     let fork = eight_blocks(512 * u64::from(blocks), blocks);
-    let runs = fork_pieces(alloc, header, overflow, file, fork_type, &fork, 77)?;
+    let laid = fork_pieces(alloc, header, overflow, file, fork_type, &fork, 77)?;
     let mut places = Vec::new(alloc);
-    for piece in runs.pieces.items() {
+    for piece in laid.pieces.items() {
         places.push(piece.at / 512)?;
     }
     Ok(places)
@@ -203,7 +203,7 @@ fn found(
     header: &Header,
     overflow: &Overflow,
     fork: &Fork,
-) -> Result<ForkRuns, ReadFault>
+) -> Result<ForkPieces, ReadFault>
     requires sound { IsSoundHeader header.now }
     requires small { header.now.at + header.now.len ≤ 4096000 }
 {
@@ -218,9 +218,9 @@ fn bytes_stand_in_the_blocks(rt: HostRuntime) -> Result<(), Fail> {
     let volume = header(4096, 1000, 4_096_000);
     assert_eq!(rt; volume.wrong_field(), None);
     let two = fork_of_two(5000, 2, one_block(10), one_block(20));
-    let runs = found(rt.alloc(), &volume, &overflow, &two).expect(&rt, "a fork");
-    assert_eq!(rt; runs.pieces.items(), PIECES.as_slice());
-    assert_eq!(rt; runs.slack.items(), SLACK.as_slice());
+    let laid = found(rt.alloc(), &volume, &overflow, &two).expect(&rt, "a fork");
+    assert_eq!(rt; laid.pieces.items(), PIECES.as_slice());
+    assert_eq!(rt; laid.slack.items(), SLACK.as_slice());
     let more = fork_of_two(5000, 3, one_block(10), one_block(20));
     let sum = Some(ReadFault::Damaged(Sort::ForkSum, 77));
     assert_eq!(rt; found(rt.alloc(), &volume, &overflow, &more).err(), sum);
@@ -274,11 +274,11 @@ fn blocks_without_bytes_are_slack(rt: HostRuntime) -> Result<(), Fail> {
     assert_eq!(rt; small.wrong_field(), None);
     let overflow = read(rt.alloc(), &image(), &small).expect(&rt, "overflow records");
     let blocks = fork_of_two(0, 2, one_block(1), one_block(2));
-    let runs = found(rt.alloc(), &small, &overflow, &blocks).expect(&rt, "a fork");
-    assert_eq!(rt; runs.pieces.items().len(), 0);
-    assert_eq!(rt; runs.slack.items().len(), 1);
+    let laid = found(rt.alloc(), &small, &overflow, &blocks).expect(&rt, "a fork");
+    assert_eq!(rt; laid.pieces.items().len(), 0);
+    assert_eq!(rt; laid.slack.items().len(), 1);
     assert_eq!(rt;
-        (runs.slack.items()[0].at, runs.slack.items()[0].len),
+        (laid.slack.items()[0].at, laid.slack.items()[0].len),
         (512, 1024)
     );
     let none = fork_of_two(1, 0, NONE, NONE);

@@ -1,6 +1,6 @@
 use Rattle.std.proofs.Common.{sym, ◌∙◌}
 use Rattle.hfs_extents.proofs.ReadLaws.{far, other_sum, leads}
-use Rattle.hfs_extents.proofs.overflow.extents_runs.Goals as goal
+use Rattle.hfs_extents.proofs.overflow.extents_pieces.Goals as goal
 
 pub returns-then-header-gt-LONGEST_IMAGE-clause-leads : goal.returns-then-header-gt-LONGEST_IMAGE-clause-leads
 returns-then-header-gt-LONGEST_IMAGE-clause-leads c = λ image. far c.args.header.now image c.if-header-gt-LONGEST_IMAGE.true
@@ -11,4 +11,4 @@ returns-then-blocks_in-from-clause-leads c = λ image.
 
 pub returns-clause-leads : goal.returns-clause-leads
 returns-clause-leads c =
-    leads c.args.header.now c.blocks_in.result c.fork_runs.result c.if-header-gt-LONGEST_IMAGE.false c.blocks_in.ensures.value (c.if-blocks_in-from.false ∙ c.from.ensures) c.fork_runs.ensures.found
+    leads c.args.header.now c.blocks_in.result c.pieces_and_slack.result c.if-header-gt-LONGEST_IMAGE.false c.blocks_in.ensures.value (c.if-blocks_in-from.false ∙ c.from.ensures) c.pieces_and_slack.ensures.found

@@ -1,6 +1,6 @@
 use Rattle.std.proofs.Common.{sym, ◌∙◌}
 use Rattle.hfs_extents.proofs.FoundLaws.{fault_answers, fault_refuses, fault_tells, found_tells, ends_inside, few_bytes, found_is, found_placed, found_covered, sound_lies}
-use Rattle.hfs_extents.proofs.fork.fork_runs.Goals as goal
+use Rattle.hfs_extents.proofs.fork.pieces_and_slack.Goals as goal
 
 pub returns-in-Some-clause-found : goal.returns-in-Some-clause-found
 returns-in-Some-clause-found c = fault_answers c.args.header.now c.args.records.now c.args.fork.now c.args.place c.in-Some.refusal c.from.result c.in-Some.ensures.value c.from.ensures
