@@ -65,7 +65,8 @@ impl Fork {
 }
 
 impl Header {
-    ghost use Rattle.hfs_defs.specs.Header.{header_of, wrong_field as wrong_field_of};
+    ghost use Rattle.hfs_defs.specs.Header as spec;
+    ghost use Rattle.hfs_defs.specs.Header.{header_of};
 
     /// The header of a volume that these bytes hold.
     #[tactic(auto, unfolding(crate::specs::Header::header_of))]
@@ -91,7 +92,7 @@ impl Header {
     /// The place in the header of the field that is wrong, if one is.
     #[tactic(auto, unfolding(crate::specs::Header::wrong_field, crate::specs::Header::is_block_size))]
     pub fn wrong_field(&self) -> Option<u64>
-        ensures place { result ≡ wrong_field_of self.now }
+        ensures place { result ≡ spec.wrong_field self.now }
         ensures named { IfSome result (λ place. (place ≡ 40) ⊎ (place ≡ 44)) }
     {
         if !self.block_size.is_power_of_two() || self.block_size < 512 {

@@ -4,7 +4,7 @@ ghost use Rattle.bytes_defs.specs.declared.order.Order.TheVariants.{Little};
 ghost use Rattle.disk_defs.specs.Disk.{size_of, told_image};
 ghost use Rattle.disk_defs.specs.declared.Area.TheVariants.{Image};
 ghost use Rattle.image_reads.specs.Steps.{ReadsAs};
-ghost use Rattle.range_defs.specs.declared.TheConstants.{LONGEST_IMAGE as LONGEST};
+ghost use Rattle.range_defs.specs.declared.TheConstants.{LONGEST_IMAGE};
 ghost use Rattle.rx_store.specs.Answers.{Answers};
 ghost use Rattle.rx_store.specs.ReadFaults.{IsReadCounted};
 ghost use Rattle.ufs_volume_defs.specs.Volume.{volume_at, volume_tree};
@@ -50,7 +50,7 @@ fn read_volume<S: Store>(
 ) -> Result<FoundVolume, ReadFault>
     requires sized { size ≡ size_of Image (S.state store.old) }
     requires inside { at + len ≤ size }
-    requires near { size ≤ LONGEST }
+    requires near { size ≤ LONGEST_IMAGE }
     ensures reads { ReadsAs (told_image (S.state store.old)) (volume_at (Little ∷ []) size (record { at = at; len = len }) number) looked.old.items looked.new.items result }
     ensures begins { IfOk result (λ found. found.superblock.at ≡ at) }
     ensures long { IfOk result (λ found. found.superblock.len ≡ len) }

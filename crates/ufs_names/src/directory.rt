@@ -9,7 +9,7 @@ ghost use Rattle.rx_store.specs.ReadFaults.{IsReadCounted};
 ghost use Rattle.ufs_blocks.specs.Placed.{DoBlocksLieWithin};
 ghost use Rattle.ufs_inode.specs.Block.{IsBlockOf};
 ghost use Rattle.ufs_inode_defs.specs.Superblock.{wrong_field};
-ghost use Rattle.ufs_volume_defs.specs.Names as spec;
+ghost use Rattle.ufs_volume_defs.specs.Names as names_spec;
 ghost use Rattle.ufs_names.specs.Walked as walk_spec;
 ghost use Rattle.ufs_names.specs.Walked.{IsNamed, IsWalked, KeptWithin};
 
@@ -78,7 +78,7 @@ pub(crate) fn directory_names<S: Store>(
     requires named { IsNamed sup.now directory.now }
     requires walked { IsWalked sup.now walk }
     requires inodes { IsBlockOf (told_image (S.state store.old)) seen.old.inodes }
-    ensures reads { ReadsAs (told_image (S.state store.old)) (spec.directory_names sup.now walk directory.now) seen.old.looked.items seen.new.looked.items result }
+    ensures reads { ReadsAs (told_image (S.state store.old)) (names_spec.directory_names sup.now walk directory.now) seen.old.looked.items seen.new.looked.items result }
     ensures walked { IfOk result (IsWalked sup.now) }
     ensures kept { OnOk result (KeptWithin (sup.now.at + sup.now.len) seen.old.looked.items seen.new.looked.items) }
     ensures inodes { OnOk result (IsBlockOf (told_image (S.state store.new)) seen.new.inodes) }
