@@ -1,5 +1,5 @@
 //! A UFS1 volume that was written by hand.
-ghost use Rattle.std.specs.Prelude.{◌≡◌, IfOk, length};
+ghost use Rattle.std.specs.Prelude.{◌≡◌, IfOk};
 ghost use Rattle.disk_defs.specs.Memory.{held_in_memory};
 
 use super::read_ufs;
@@ -10,11 +10,8 @@ use rx_tree::{FileEntry, Kind};
 use std::alloc::{AllocError, Global};
 use std::test::Fail;
 
-/// A UFS1 of 34 fragments of 512 bytes, with blocks of 4,096 bytes and one group of 32 inodes. Inode 2 is the root, whose block
-/// names inode 3 `b` and `a`, in this order; inode 3 has 5 bytes, and was modified in second 1.
-fn volume() -> [u8; 17408] {
-    let mut bytes = [0; 17408];
-    // struct fs at 8192
+/// Writes the superblock, struct fs at 8192.
+fn put_super(bytes: &mut [u8; 17408]) {
     bytes[8208] = 24;
     bytes[8236] = 1;
     bytes[8241] = 16;
@@ -27,18 +24,25 @@ fn volume() -> [u8; 17408] {
     bytes[9564] = 0x54;
     bytes[9565] = 0x19;
     bytes[9566] = 0x01;
-    // struct ufs1_dinode of inode 2: mode 040755, size 512, block 32
+}
+
+/// Writes the inodes, each a struct ufs1_dinode.
+fn put_inodes(bytes: &mut [u8; 17408]) {
+    // inode 2: mode 040755, size 512, block 32
     bytes[12544] = 0xED;
     bytes[12545] = 0x41;
     bytes[12553] = 2;
     bytes[12584] = 32;
-    // that of inode 3: mode 0100644, size 5, block 33
+    // inode 3: mode 0100644, size 5, block 33
     bytes[12672] = 0xA4;
     bytes[12673] = 0x81;
     bytes[12680] = 5;
     bytes[12696] = 1;
     bytes[12712] = 33;
-    // struct direct: `.`, `..`, `b`, `a`
+}
+
+/// Writes the block of the root: a struct direct each for `.`, `..`, `b` and `a`.
+fn put_entries(bytes: &mut [u8; 17408]) {
     bytes[16384] = 2;
     bytes[16388] = 12;
     bytes[16391] = 1;
@@ -57,6 +61,15 @@ fn volume() -> [u8; 17408] {
     bytes[16425] = 1;
     bytes[16427] = 1;
     bytes[16428] = b'a';
+}
+
+/// A UFS1 of 34 fragments of 512 bytes, with blocks of 4,096 bytes and one group of 32 inodes. Inode 2 is the root, whose block
+/// names inode 3 `b` and `a`, in this order; inode 3 has 5 bytes, and was modified in second 1.
+fn volume() -> [u8; 17408] {
+    let mut bytes = [0; 17408];
+    put_super(&mut bytes);
+    put_inodes(&mut bytes);
+    put_entries(&mut bytes);
     bytes
 }
 
