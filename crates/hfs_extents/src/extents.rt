@@ -1,7 +1,7 @@
 //! Extents: their blocks, and which of them pass the volume's end.
-ghost use Rattle.std.specs.Prelude.{◌≡◌, ◌+◌, ◌*◌, ◌^◌, ◌<◌, ◌≤◌, length, IsTrue, IfNone};
+ghost use Rattle.std.specs.Prelude.{◌≡◌, ◌*◌, ◌^◌, ◌<◌, ◌≤◌, length, IsTrue, IfNone};
 ghost use Rattle.hfs_defs.specs.Forks as spec;
-ghost use Rattle.hfs_defs.specs.Forks.{written_from, follow_on, written_extents};
+ghost use Rattle.hfs_defs.specs.Forks.{written_from, written_extents};
 ghost use Rattle.hfs_extents.specs.Extents.{AreNear};
 
 use fault_defs::{Refusal, Sort};

@@ -5,7 +5,6 @@ ghost use Rattle.disk_defs.specs.declared.Area.TheVariants.{Image};
 ghost use Rattle.hfs_defs.specs.Forks as spec;
 ghost use Rattle.hfs_defs.specs.Forks.{byte_place, extents_with, found_fork};
 ghost use Rattle.hfs_defs.specs.Header.{IsSoundHeader};
-ghost use Rattle.hfs_extents.specs.Extents.{AreNear};
 ghost use Rattle.hfs_extents.specs.Found.{found_in, IsForkRefusal, TellsFork};
 ghost use Rattle.hfs_extents.specs.Overflow.{overflow_within, LeadsOn, IsExtentsRefusal, IsOverflowRefusal};
 ghost use Rattle.image_defs.specs.Ask.{result_of};

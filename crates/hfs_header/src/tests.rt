@@ -1,5 +1,5 @@
 //! Tests of what no clause says: a header whose fields were written by hand, and a device that fails at each call.
-ghost use Rattle.std.specs.Prelude.{◌≡◌, IfOk, length};
+ghost use Rattle.std.specs.Prelude.{◌≡◌, IfOk};
 ghost use Rattle.disk_defs.specs.Memory.{held_in_memory};
 
 use super::read_header;

@@ -1,5 +1,5 @@
 //! What a journal holds behind its header.
-ghost use Rattle.std.specs.Prelude.{◌≡◌, ◌≢◌, ◌+◌, ◌*◌, ◌<◌, ◌≤◌, ◌-◌, ℕ, List, [], map, Err, IfErr, IfOk, IfSome, OnOk, None, length, slice_index};
+ghost use Rattle.std.specs.Prelude.{◌≡◌, ◌+◌, ◌*◌, ◌≤◌, [], map, IfErr, IfOk, IfSome, OnOk, length, slice_index};
 ghost use Rattle.bytes_defs.specs.Bytes.{part};
 ghost use Rattle.disk_defs.specs.Disk.{size_of, told_of};
 ghost use Rattle.disk_defs.specs.declared.Area.TheVariants.{Journal};
@@ -8,7 +8,6 @@ ghost use Rattle.journal_defs.specs.Form as form_spec;
 ghost use Rattle.journal_defs.specs.Form.{group_count};
 ghost use Rattle.rx_ranges.specs.declared.plan.TheConstants.{MAX_LISTING_BYTES, MAX_RANGES};
 ghost use Rattle.journal_defs.specs.Reading.{plan_in};
-ghost use Rattle.journal_defs.specs.declared.TheConstants.{OPEN_GATE};
 ghost use Rattle.journal_format.specs.Header.{IsHeader, checks_of, header_in};
 ghost use Rattle.journal_format.specs.Parts.{Always, IsPart, IsWindow, ReadsPart};
 ghost use Rattle.journal_format.specs.Says.{IsCalm, Says, IsState, FailsAs, IsReadCounted};

@@ -1,5 +1,5 @@
 //! The fields of a journal, and their checks as tables: each place with whether its check holds.
-ghost use Rattle.std.specs.Prelude.{◌≡◌, ◌+◌, ◌*◌, ◌≤◌, ◌&&◌, ◌==◌, codes, not, nat_le, length};
+ghost use Rattle.std.specs.Prelude.{◌≡◌, ◌+◌, ◌*◌, ◌≤◌, ◌&&◌, ◌==◌, codes, nat_le, length};
 ghost use Rattle.std.specs.Str.{bytes_eq};
 ghost use Rattle.bytes_defs.specs.Bytes.{part};
 ghost use Rattle.journal_defs.specs.Checks as spec;
@@ -10,7 +10,7 @@ ghost use Rattle.journal_format.specs.Header.{header_in};
 use bytes_defs::{Order, u32_at, u64_at};
 use journal_defs::{HEADER_LEN, RANGE_LEN};
 use range_defs::{Claim, LONGEST_IMAGE, Range};
-use rx_ranges::{MAX_LISTED, MAX_LISTING_BYTES, MAX_RANGES, MAX_RULE};
+use rx_ranges::{MAX_LISTED, MAX_LISTING_BYTES, MAX_RANGES};
 
 /// The numbers of a header.
 #[derive(Clone, Copy, Debug)]

@@ -1,8 +1,7 @@
 //! The listing of a journal.
-ghost use Rattle.std.specs.Prelude.{◌≡◌, ◌≢◌, ◌+◌, ◌*◌, ◌^◌, ◌<◌, ◌≤◌, ◌==◌, ◌&&◌, ◌||◌, ◌∷◌, ℕ, None, Err, List, [], ◌++◌, true, false, take, IfErr, IfOk, OnOk, MatchOption, length};
+ghost use Rattle.std.specs.Prelude.{◌≡◌, ◌+◌, ◌^◌, ◌<◌, ◌≤◌, ◌==◌, ◌||◌, ◌∷◌, ℕ, None, List, [], true, false, take, IfErr, IfOk, OnOk, MatchOption, length};
 ghost use Rattle.std.specs.List.{list_all};
 ghost use Rattle.bytes_defs.specs.Bytes.{part};
-ghost use Rattle.bytes_defs.specs.Numbers.{little_at};
 ghost use Rattle.disk_defs.specs.Disk.{size_of, told_of};
 ghost use Rattle.disk_defs.specs.declared.Area.TheVariants.{Journal};
 ghost use Rattle.journal_defs.specs.Checks as checks_spec;

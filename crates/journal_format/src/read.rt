@@ -1,14 +1,12 @@
 //! Reads the journal of a store.
-ghost use Rattle.std.specs.Prelude.{◌≡◌, ◌≢◌, ◌+◌, ◌*◌, ◌<◌, ℕ, All, ◌≤◌, Err, List, length, IfErr, IfOk, IfSome};
+ghost use Rattle.std.specs.Prelude.{◌≡◌, ◌+◌, ◌*◌, ◌<◌, ℕ, All, ◌≤◌, Err, List, length, IfErr, IfOk, IfSome};
 ghost use Rattle.bytes_defs.specs.Bytes.{part};
 ghost use Rattle.disk_defs.specs.Count.{IsCountedIn};
 ghost use Rattle.disk_defs.specs.Disk.{size_of, told_of};
 ghost use Rattle.disk_defs.specs.declared.Area.TheVariants.{Journal};
 ghost use Rattle.journal_defs.specs.Form.{group_count};
 ghost use Rattle.journal_format.specs.Header.{IsHeader};
-ghost use Rattle.journal_format.specs.Parts.{IsPart};
 ghost use Rattle.journal_format.specs.Says.{IsCalm, Says, IsState, IsReadCounted};
-ghost use Rattle.journal_format.specs.declared.state.JournalState.{JournalState};
 ghost use Rattle.rx_ranges.specs.declared.plan.TheConstants.{MAX_LISTING_BYTES, MAX_RANGES};
 
 use crate::decode::{checked_header, read_state};

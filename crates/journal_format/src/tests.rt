@@ -1,5 +1,4 @@
 //! Tests of worked journals.
-ghost use Rattle.std.specs.Prelude.{◌≡◌, IfOk, length};
 ghost use Rattle.rx_ranges.specs.PlanChecks.{IsPlan};
 
 use super::{JournalFault, journal_len, journal_piece, read_journal};

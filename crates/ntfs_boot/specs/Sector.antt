@@ -1,5 +1,5 @@
 -- The boot sector by its bytes, one test after the other, and what holds of each volume that it describes.
-use Rattle.std.specs.Prelude.{◌≡◌, ℕ, ◌+◌, ◌*◌, ◌<◌, ◌≤◌, true, nat_le, nat_lt, if◌then◌else◌, Result, Ok, Err, List, [], ◌∷◌}
+use Rattle.std.specs.Prelude.{◌≡◌, ℕ, ◌+◌, ◌*◌, ◌<◌, ◌≤◌, true, nat_lt, if◌then◌else◌, Result, Ok, Err, List, [], ◌∷◌}
 use Rattle.fault_defs.specs.declared.Sort.TheVariants.{BootField}
 use Rattle.fault_defs.specs.declared.What.TheVariants.{BootGeometry}
 use Rattle.fault_defs.specs.declared.Refusal.{Refusal}

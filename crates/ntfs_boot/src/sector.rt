@@ -1,5 +1,5 @@
 //! A volume by the bytes of its boot sector.
-ghost use Rattle.std.specs.Prelude.{◌≡◌, ◌+◌, ◌*◌, ◌<◌, ◌≤◌, ◌^◌, ◌&&◌, true, false, nat_lt, nat_le, length, MatchOption};
+ghost use Rattle.std.specs.Prelude.{◌≡◌, ◌+◌, ◌*◌, ◌<◌, ◌^◌, ◌&&◌, true, false, nat_lt, nat_le, length, MatchOption};
 ghost use Rattle.ntfs_volume_defs.specs.Boot as spec;
 ghost use Rattle.ntfs_volume_defs.specs.Boot.{is_one_of, size_of_record, sectors_in_cluster, record_size_of};
 ghost use Rattle.ntfs_boot.specs.Sector.{sector_sizes, cluster_counts, record_sizes, placed_boot, sector_boot};

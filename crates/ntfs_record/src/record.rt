@@ -1,5 +1,5 @@
 //! Records.
-ghost use Rattle.std.specs.Prelude.{◌≡◌, ◌<◌, length, IfOk, IfErr, OnOk, Ok, Err, IsOk};
+ghost use Rattle.std.specs.Prelude.{◌≡◌, ◌<◌, length, IfOk, IfErr, OnOk, Err, IsOk};
 ghost use Rattle.image_defs.specs.Ask.{result_of};
 ghost use Rattle.bytes_defs.specs.Numbers.{little_at};
 ghost use Rattle.ntfs_record_defs.specs.Stored as spec;

@@ -1,5 +1,5 @@
 //! The runs of a run list, one at a time.
-ghost use Rattle.std.specs.Prelude.{◌≡◌, ◌+◌, ◌^◌, ◌≤◌, ◌<◌, length, ℤ, pos};
+ghost use Rattle.std.specs.Prelude.{◌≡◌, ◌+◌, ◌^◌, ◌≤◌, length};
 ghost use Rattle.ntfs_defs.specs.WrittenRuns as written_runs_spec;
 ghost use Rattle.bytes_defs.specs.Numbers.{little_at};
 ghost use Rattle.ntfs_defs.specs.DecodedRuns as decoded_runs_spec;

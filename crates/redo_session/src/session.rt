@@ -1,8 +1,8 @@
 //! A session: a plan that is carried out, one call a turn.
-ghost use Rattle.std.specs.Prelude.{◌≡◌, ◌≢◌, None, Some, false, IfOk, IfSome, OnOk, length, replicate, vec_len};
+ghost use Rattle.std.specs.Prelude.{◌≡◌, None, Some, false, IfOk, IfSome, OnOk, length, replicate, vec_len};
 ghost use Rattle.journal_defs.specs.Form.{groups_of, journal_len};
 ghost use Rattle.rx_ranges.specs.PlanChecks.{IsPlan};
-ghost use Rattle.session_defs.specs.Session.{Begun, Resumed, Running, Ended, HasSizes, IsAnswer, IsMade, IsTurnCounted, IsTurned, new_session, next_call};
+ghost use Rattle.session_defs.specs.Session.{Begun, Resumed, HasSizes, IsAnswer, IsMade, IsTurnCounted, IsTurned, new_session, next_call};
 ghost use Rattle.session_defs.specs.declared.TheConstants.{PIECE};
 ghost use Rattle.session_defs.specs.Script.{rest_of};
 ghost use Rattle.redo_session.specs.Steps.{IsStep, journal_at, left};

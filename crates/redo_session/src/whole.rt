@@ -1,5 +1,5 @@
 //! A session that is carried out to its end.
-ghost use Rattle.std.specs.Prelude.{◌≡◌, ◌≢◌, OnErr, OnOk};
+ghost use Rattle.std.specs.Prelude.{◌≡◌, OnErr, OnOk};
 ghost use Rattle.disk_defs.specs.Disk.{state_after_all};
 ghost use Rattle.session_defs.specs.Script.{changes_of};
 ghost use Rattle.session_defs.specs.Session.{Running, Ended, HasSizes, IsSessionCounted, IsStopped, calls_of};

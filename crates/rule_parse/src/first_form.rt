@@ -1,5 +1,5 @@
 //! The first form of a rule text.
-ghost use Rattle.std.specs.Prelude.{◌≡◌, ℕ, ◌+◌, ◌*◌, ◌<◌, ◌&&◌, [], ◌∷◌, List, Some, None, IfSome, IfNone, IfOk, IsTrue, length};
+ghost use Rattle.std.specs.Prelude.{◌≡◌, ℕ, ◌<◌, [], ◌∷◌, List, IfSome, IfNone, IfOk, IsTrue};
 ghost use Rattle.std.specs.List.{list_all};
 ghost use Rattle.rule_defs.specs.FirstLine.{without_end, IsOtherLine};
 ghost use Rattle.rule_defs.specs.Reads.{is_name_byte, is_plain_name, hex_value, first_line, first_rule, IsFirstLine};

@@ -1,7 +1,4 @@
 //! The command `plan` makes ten calls on the store, and none on the journal.
-ghost use Rattle.std.specs.Prelude.{◌≡◌, ◌+◌, ◌≤◌, length, IfOk, OnOk};
-ghost use Rattle.disk_defs.specs.Disk.{size_of, ReadsFrom};
-ghost use Rattle.disk_defs.specs.Count.{IsCountedIn};
 ghost use Rattle.disk_defs.specs.Memory.{state_in_memory};
 
 use crate::plan::{REPORT, RULE, answers, words_of};

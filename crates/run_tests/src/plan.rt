@@ -1,5 +1,5 @@
 //! The command `plan` on the small image and on images that differ from it.
-ghost use Rattle.std.specs.Prelude.{◌≡◌, ◌+◌, ◌≤◌, length, vec_len, IfOk};
+ghost use Rattle.std.specs.Prelude.{◌≡◌, vec_len, IfOk};
 
 use crate::refusals::changed;
 use crate::small_image::{

@@ -1,5 +1,5 @@
 //! Appending the escapes of what doesn't print as it is.
-ghost use Rattle.std.specs.Prelude.{◌≡◌, ◌<◌, ◌++◌, OnOk, string_bytes};
+ghost use Rattle.std.specs.Prelude.{◌≡◌, ◌++◌, OnOk, string_bytes};
 ghost use Rattle.std.specs.Str.{encode_utf8_all};
 ghost use Rattle.name_defs.specs.Spelling.{byte_escape, unit_escape};
 

@@ -1,5 +1,5 @@
 //! How a pattern's text reads.
-ghost use Rattle.std.specs.Prelude.{◌≡◌, ◌≤◌, ◌<◌, ◌==◌, ◌++◌, ◌∷◌, true, false, drop, length, Some, None, MatchOption, IfOk};
+ghost use Rattle.std.specs.Prelude.{◌≡◌, ◌≤◌, ◌<◌, ◌++◌, ◌∷◌, true, false, drop, length, Some, None, MatchOption, IfOk};
 ghost use Rattle.std.specs.Str.{chars};
 ghost use Rattle.rx_pattern.specs.Reading.{range_end, members_of, inside_of, is_negated, behind_mark, class_width, item_of};
 

@@ -1,5 +1,5 @@
 //! Claims laid over one another: each byte goes to the claim with the least rule.
-ghost use Rattle.std.specs.Prelude.{◌≡◌, ◌+◌, ◌<◌, ◌++◌, ℕ, All, IfOk};
+ghost use Rattle.std.specs.Prelude.{◌≡◌, ◌+◌, ◌++◌, ℕ, All, IfOk};
 ghost use Rattle.range_defs.specs.Claims.{painted, paint_of, lesser_paint, IsFillMap};
 ghost use Rattle.range_defs.specs.Places.{EndsInReach};
 ghost use Rattle.rx_ranges.specs.Laying.{AreApart, HasFill, part_of, shared_part, laid_on, unless_empty};

@@ -1,6 +1,5 @@
 //! Volumes that were written by hand.
 ghost use Rattle.std.specs.Prelude.{◌≡◌, IfOk, length};
-ghost use Rattle.disk_defs.specs.Memory.{held_in_memory};
 
 use super::{Blocks, blocks_of};
 use range_defs::Range;

@@ -1,5 +1,5 @@
 -- The entries of a directory that lead to files, as a walk over a block's bytes finds them.
-use Rattle.std.proofs.Common.{◌≡◌, ℕ, ◌+◌, ◌%◌, ◌<◌, ◌≤◌, Bool, true, false, if◌then◌else◌, Ok, Err, List, [], ◌∷◌, ◌++◌, length, refl, sym, ap, subst, ◌∙◌, append-nil, arith}
+use Rattle.std.proofs.Common.{◌≡◌, ℕ, ◌+◌, ◌<◌, ◌≤◌, Bool, true, false, if◌then◌else◌, Ok, Err, List, [], ◌∷◌, ◌++◌, length, refl, sym, ap, subst, ◌∙◌, append-nil}
 use Rattle.bytes_defs.specs.declared.order.Order.{Order}
 use Rattle.fault_defs.specs.declared.Refusal.TheVariants.{Damaged}
 use Rattle.fault_defs.specs.declared.Sort.TheVariants.{DirEntry}

@@ -1,5 +1,5 @@
 //! Where inodes stand.
-ghost use Rattle.std.specs.Prelude.{◌≡◌, ◌+◌, ◌-◌, ◌*◌, ◌%◌, ◌^◌, ◌<◌, bit_and, None};
+ghost use Rattle.std.specs.Prelude.{◌≡◌, ◌-◌, ◌*◌, ◌%◌, ◌^◌, ◌<◌, bit_and, None};
 ghost use Rattle.ufs_inode_defs.specs.Layout.{layout_of};
 ghost use Rattle.ufs_inode_defs.specs.Superblock as spec;
 ghost use Rattle.ufs_inode_defs.specs.Superblock.{wrong_field};

@@ -1,5 +1,5 @@
 //! The reads of inodes.
-ghost use Rattle.std.specs.Prelude.{◌≡◌, ◌≢◌, Err, None, ◌+◌, ◌-◌, ◌^◌, ◌<◌, ◌≤◌, false, true, [], ◌∷◌, ◌++◌, IfErr, IfOk, IfSome, IsNone, IsSome, OnOk};
+ghost use Rattle.std.specs.Prelude.{◌≡◌, ◌≢◌, Err, None, ◌+◌, ◌-◌, ◌^◌, ◌<◌, ◌≤◌, false, true, IfErr, IfOk, IfSome, IsNone, IsSome, OnOk};
 ghost use Rattle.bytes_defs.specs.Bytes.{part};
 ghost use Rattle.disk_defs.specs.Count.{IsCountedIn};
 ghost use Rattle.disk_defs.specs.Disk.{size_of, told_image};

@@ -1,5 +1,5 @@
 //! Tests of what no clause says: inodes written by hand, at places worked out by the macros, and a device that fails.
-ghost use Rattle.std.specs.Prelude.{◌≡◌, IfOk, length};
+ghost use Rattle.std.specs.Prelude.{◌≡◌, IfOk};
 ghost use Rattle.disk_defs.specs.Memory.{held_in_memory};
 
 use crate::fields::inode_2_from;

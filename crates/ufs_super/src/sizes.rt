@@ -1,5 +1,5 @@
 //! The sizes of blocks of a volume whose superblock has no wrong field, and the blocks of a stream.
-ghost use Rattle.std.specs.Prelude.{◌≡◌, ◌+◌, ◌<◌, ◌≤◌, None};
+ghost use Rattle.std.specs.Prelude.{◌≡◌, ◌≤◌, None};
 ghost use Rattle.ufs_inode_defs.specs.Layout as layout_spec;
 ghost use Rattle.ufs_inode_defs.specs.Stream as stream_spec;
 ghost use Rattle.ufs_inode_defs.specs.Superblock as superblock_spec;

@@ -1,4 +1,4 @@
-use Rattle.std.proofs.Common.{◌≡◌, Ok, Err, ap, sym, ◌∙◌, subst}
+use Rattle.std.proofs.Common.{ap, sym, ◌∙◌, subst}
 use Rattle.ntfs_boot.specs.Sector.{sector_boot, IsBootRefusal}
 use Rattle.ntfs_boot.proofs.Sectors.{short_volume, boot_run, sound_boot, refusal_of_boot, told_all, told_map, answers_refusal}
 use Rattle.ntfs_boot.proofs.read_boot.Goals as goal

@@ -1,9 +1,9 @@
-use Rattle.std.proofs.Common.{◌≡◌, ◌*◌, ◌%◌, ◌^◌, pos, ap, sym, ◌∙◌}
+use Rattle.std.proofs.Common.{◌*◌, ◌%◌, ◌^◌, pos, ap, sym, ◌∙◌}
 use Rattle.std.specs.Int.{w8}
 use Rattle.std.proofs.lemmas.Int.{to_z-of_z}
 use lib.Signed.{le_z}
 use lib.IntN.{nat_abs}
-use Rattle.ntfs_volume_defs.specs.Boot.{is_one_of, size_of_record}
+use Rattle.ntfs_volume_defs.specs.Boot.{is_one_of}
 use Rattle.ntfs_boot.specs.Sector.{record_sizes}
 use Rattle.ntfs_boot.proofs.Sectors.{positive_size, negative_size, power_size}
 use Rattle.ntfs_boot.proofs.sector.record_size.Goals as goal
