@@ -10,8 +10,8 @@ pub enum PieceKind {
     Zero,
 }
 
-/// A run of a part's bytes: `len` of them from its byte `from` on. They stand in the image from byte `at` on; the
-/// `at` of zeros is 0.
+/// A piece of a part: `len` of its bytes from its byte `from` on. They stand in the image from byte `at` on; the `at` of
+/// zeros is 0.
 #[derive(Clone, Copy, Debug, PartialEq, Eq)]
 pub struct Piece {
     pub from: u64,

@@ -11,22 +11,22 @@ abbrev pub is_on_disk : PieceKind → Bool
 is_on_disk Disk = true
 is_on_disk Zero = false
 
--- the next run can't be one with this: it begins elsewhere, in the part or in the image
+-- the next piece can't be one with this: it begins elsewhere, in the part or in the image
 abbrev pub begins_apart : Piece → List Piece → Bool
-begins_apart run [] = true
-begins_apart run (next ∷ runs) = not (run.from + run.len == next.from && is_contiguous run next)
+begins_apart piece [] = true
+begins_apart piece (next ∷ pieces) = not (piece.from + piece.len == next.from && is_contiguous piece next)
 
--- runs on the disk from a byte of the part on, in order; none is empty, and each is as long as possible
-abbrev pub are_runs_from : ℕ → List Piece → Bool
-are_runs_from from [] = true
-are_runs_from from (run ∷ runs) =
-    nat_le from run.from
-    && (is_on_disk run.kind && (nat_lt 0 run.len && (begins_apart run runs && are_runs_from (run.from + run.len) runs)))
+-- pieces on the disk from a byte of the part on, in order; none is empty, and each is as long as possible
+abbrev pub are_pieces_from : ℕ → List Piece → Bool
+are_pieces_from from [] = true
+are_pieces_from from (piece ∷ pieces) =
+    nat_le from piece.from
+    && (is_on_disk piece.kind && (nat_lt 0 piece.len && (begins_apart piece pieces && are_pieces_from (piece.from + piece.len) pieces)))
 
--- the pieces of a readable part cover it; those of an unreadable one are its runs on the disk, and it has no slack
+-- the pieces of a readable part cover it; those of an unreadable one stand on the disk, and it has no slack
 abbrev pub AreOfPart : Bool → ℕ → List Piece → List Range → Type 0
 AreOfPart false size pieces slack = IsTrue (covers_from 0 size pieces)
-AreOfPart true size pieces slack = IsTrue (are_runs_from 0 pieces) × (slack ≡ [])
+AreOfPart true size pieces slack = IsTrue (are_pieces_from 0 pieces) × (slack ≡ [])
 
 -- zeros stand nowhere: what their piece says of a place is 0
 abbrev pub ArePlain : List Piece → Type 0

@@ -13,7 +13,7 @@ use Rattle.rx_tree.specs.declared.volume.Volume.{Volume}
 abbrev pub AreRangesWithin : ℕ → List Range → Type 0
 AreRangesWithin len = All (λ range. range.at + range.len ≤ len)
 
--- pieces whose bytes on the disk end at most at a byte; a run of zeros may be longer
+-- pieces whose bytes on the disk end at most at a byte; a piece of zeros may be longer
 abbrev pub ArePiecesWithin : ℕ → List Piece → Type 0
 ArePiecesWithin len pieces = AreWithin len pieces
 

@@ -17,9 +17,9 @@ pub enum Role {
 /// A part of a file: `size` bytes that its pieces give, and the slack, which is what is allocated for the part and
 /// isn't content. Sizes are in bytes.
 ///
-/// The pieces of a readable part cover its bytes in order, and are the longest possible. Those of an unreadable part are
-/// its runs on the disk, the longest possible; their `from` counts the bytes of what the file system keeps for the part,
-/// and it has no slack.
+/// The pieces of a readable part cover its bytes in order, and are the longest possible. Those of an unreadable part stand
+/// on the disk, the longest possible too; their `from` counts the bytes of what the file system keeps for the part, and it
+/// has no slack.
 #[derive(Debug, Drop)]
 pub struct Part {
     pub role: Role,
