@@ -7,7 +7,7 @@ use Rattle.range_defs.specs.declared.Range.{Range}
 use Rattle.range_defs.specs.declared.TheConstants.{LONGEST_IMAGE}
 use Rattle.range_defs.specs.Places.{covers}
 use Rattle.image_defs.specs.Ask.{Ask, Done, visits, ◌>>=◌}
-use Rattle.image_reads.specs.Steps.{ReadsAs, SameBytes}
+use Rattle.image_reads.specs.Steps.{ReadsAs, SameBytes, KeptWithin}
 use Rattle.image_reads.proofs.Coming.{IsCome}
 use Rattle.image_reads.proofs.Bytes.{same_front}
 use Rattle.image_reads.proofs.Steps.{comes_value, comes_fault, comes_done, ends_with}
@@ -19,7 +19,7 @@ use Rattle.ufs_inode_defs.specs.Blocks.{most_runs}
 use Rattle.ufs_inode_defs.specs.declared.superblock.Super.{Super}
 use Rattle.ufs_inode_defs.specs.declared.inode.Inode.{Inode}
 use Rattle.ufs_volume_defs.specs.Files.{Filed, Parted, inode_parts}
-use Rattle.ufs_names.specs.Walked.{IsInodeOf, KeptWithin}
+use Rattle.ufs_names.specs.Walked.{IsInodeOf}
 use Rattle.ufs_files.specs.Groups.{Group}
 use Rattle.ufs_files.specs.Filed.{with_group, group_file, IsGoodGroup}
 

@@ -3,7 +3,7 @@ ghost use Rattle.std.specs.Prelude.{◌≡◌, ◌+◌, ◌≤◌, None, Ok, All
 ghost use Rattle.disk_defs.specs.Disk.{size_of, told_image};
 ghost use Rattle.disk_defs.specs.declared.Area.TheVariants.{Image};
 ghost use Rattle.image_defs.specs.Ask.{result_of};
-ghost use Rattle.image_reads.specs.Steps.{ReadsAs};
+ghost use Rattle.image_reads.specs.Steps.{ReadsAs, KeptWithin};
 ghost use Rattle.range_defs.specs.declared.TheConstants.{LONGEST_IMAGE};
 ghost use Rattle.rx_store.specs.ReadFaults.{IsReadCounted};
 ghost use Rattle.rx_tree.specs.PartOrder.{ArePartsSorted};
@@ -13,7 +13,7 @@ ghost use Rattle.ufs_inode_defs.specs.Layout.{layout_of};
 ghost use Rattle.ufs_inode_defs.specs.Superblock.{wrong_field};
 ghost use Rattle.ufs_volume_defs.specs.Files.{named_files};
 ghost use Rattle.ufs_volume_defs.specs.Names.{most_names, most_path_bytes, path_bytes};
-ghost use Rattle.ufs_names.specs.Walked.{IsNamed, KeptWithin};
+ghost use Rattle.ufs_names.specs.Walked.{IsNamed};
 ghost use Rattle.ufs_files.specs.Filed.{group_file, with_group, IsGoodGroup, HasFile, AreFilesOf};
 
 use crate::file::file_from;

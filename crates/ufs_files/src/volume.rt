@@ -3,12 +3,11 @@ ghost use Rattle.std.specs.Prelude.{◌≡◌, ◌+◌, ◌≤◌, IfOk, IfSome,
 ghost use Rattle.bytes_defs.specs.declared.order.Order.TheVariants.{Little};
 ghost use Rattle.disk_defs.specs.Disk.{size_of, told_image};
 ghost use Rattle.disk_defs.specs.declared.Area.TheVariants.{Image};
-ghost use Rattle.image_reads.specs.Steps.{ReadsAs};
+ghost use Rattle.image_reads.specs.Steps.{ReadsAs, KeptWithin};
 ghost use Rattle.range_defs.specs.declared.TheConstants.{LONGEST_IMAGE};
 ghost use Rattle.rx_store.specs.Answers.{Answers};
 ghost use Rattle.rx_store.specs.ReadFaults.{IsReadCounted};
 ghost use Rattle.ufs_volume_defs.specs.Volume.{volume_at, volume_tree};
-ghost use Rattle.ufs_names.specs.Walked.{KeptWithin};
 ghost use Rattle.ufs_files.specs.Filed.{AreFilesOf};
 ghost use Rattle.ufs_files.specs.Guarded.{RestsOnGuard};
 

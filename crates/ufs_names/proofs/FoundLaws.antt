@@ -15,6 +15,7 @@ use Rattle.rx_store.specs.Answers.{Answers}
 use Rattle.rx_store.specs.ReadFaults.{IsReadCounted}
 use Rattle.rx_store.specs.declared.read_fault.ReadFault.{ReadFault}
 use Rattle.rx_store.specs.declared.read_fault.ReadFault.TheVariants.{Device, NoMemory, NotThis, Damaged, Unsupported, Limit}
+use Rattle.ufs_blocks.specs.UnderWay.{Settles}
 use Rattle.ufs_inode_defs.specs.Layout.{layout_of}
 use Rattle.ufs_inode_defs.specs.Superblock.{has_inode, inode_place}
 use Rattle.ufs_inode_defs.specs.Inode.{is_directory, inode_named}
@@ -22,7 +23,7 @@ use Rattle.ufs_inode_defs.specs.declared.superblock.Super.{Super}
 use Rattle.ufs_inode_defs.specs.declared.inode.Inode.{Inode}
 use Rattle.ufs_volume_defs.specs.Directory.{Entry}
 use Rattle.ufs_volume_defs.specs.Names.{Named, Walk, Block, counted_name, found_name, is_known, name_by, with_name, path_bytes, longest_path, most_names, most_path_bytes}
-use Rattle.ufs_names.specs.Walked.{IsNamed, IsWalked, Settles, limited_path, limited_name}
+use Rattle.ufs_names.specs.Walked.{IsNamed, IsWalked, limited_path, limited_name}
 
 -- ---- results
 

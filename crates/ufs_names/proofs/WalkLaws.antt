@@ -9,10 +9,10 @@ use Rattle.fault_defs.specs.declared.Refusal.TheVariants as refusal
 use Rattle.fault_defs.specs.declared.Bound.TheVariants.{Names, PathBytes}
 use Rattle.rx_store.specs.declared.read_fault.ReadFault.{ReadFault}
 use Rattle.rx_store.specs.declared.read_fault.ReadFault.TheVariants.{Device, NoMemory, NotThis, Damaged, Unsupported, Limit}
-use Rattle.image_reads.specs.Steps.{ReadsAs, IsRead}
+use Rattle.image_reads.specs.Steps.{ReadsAs, IsRead, KeptWithin}
 use Rattle.image_reads.proofs.Bytes.{same_ranges}
+use Rattle.ufs_blocks.specs.UnderWay.{Settles}
 use Rattle.ufs_volume_defs.specs.Names.{Named, Walk, counted_name, with_name, path_bytes, longest_path, most_names, most_path_bytes}
-use Rattle.ufs_names.specs.Walked.{KeptWithin, Settles}
 
 -- ---- one more name
 

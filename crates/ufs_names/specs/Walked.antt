@@ -1,7 +1,5 @@
 -- What holds of a walk over every store, also one that tells nothing.
 use Rattle.std.specs.Prelude.{◌≡◌, ℕ, ◌+◌, ◌*◌, ◌<◌, ◌≤◌, true, All, nat_le, if◌then◌else◌, Result, Ok, Err, List, length}
-pub use Rattle.image_reads.specs.Steps.{KeptWithin}
-pub use Rattle.ufs_blocks.specs.UnderWay.{Settles}
 use Rattle.rx_ranges.specs.Path.{IsPath}
 use Rattle.rx_ranges.specs.declared.pieces.Piece.{Piece}
 use Rattle.image_defs.specs.Ask.{Ask, Done, given, ◌>>=◌}

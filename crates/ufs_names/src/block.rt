@@ -3,7 +3,7 @@ ghost use Rattle.std.specs.Prelude.{◌≡◌, ◌+◌, ◌*◌, ◌%◌, ◌^�
 ghost use Rattle.disk_defs.specs.Disk.{size_of, told_image};
 ghost use Rattle.disk_defs.specs.declared.Area.TheVariants.{Image};
 ghost use Rattle.image_defs.specs.Through.{through};
-ghost use Rattle.image_reads.specs.Steps.{ReadsAs};
+ghost use Rattle.image_reads.specs.Steps.{ReadsAs, KeptWithin};
 ghost use Rattle.range_defs.specs.declared.TheConstants.{LONGEST_IMAGE};
 ghost use Rattle.rx_ranges.specs.Path.{IsPath};
 ghost use Rattle.rx_store.specs.ReadFaults.{IsReadCounted};
@@ -11,7 +11,7 @@ ghost use Rattle.ufs_inode.specs.Block.{IsBlockOf};
 ghost use Rattle.ufs_inode_defs.specs.Superblock as superblock_spec;
 ghost use Rattle.ufs_inode_defs.specs.Superblock.{wrong_field};
 ghost use Rattle.ufs_volume_defs.specs.Names as names_spec;
-ghost use Rattle.ufs_names.specs.Walked.{IsWalked, KeptWithin, LiesIn};
+ghost use Rattle.ufs_names.specs.Walked.{IsWalked, LiesIn};
 
 use crate::entry::{Block, Place, entry_name};
 use crate::name::Name;

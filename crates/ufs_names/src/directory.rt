@@ -2,7 +2,7 @@
 ghost use Rattle.std.specs.Prelude.{◌≡◌, ◌+◌, ◌%◌, ◌≤◌, None, IfOk, OnOk};
 ghost use Rattle.disk_defs.specs.Disk.{size_of, told_image};
 ghost use Rattle.disk_defs.specs.declared.Area.TheVariants.{Image};
-ghost use Rattle.image_reads.specs.Steps.{ReadsAs};
+ghost use Rattle.image_reads.specs.Steps.{ReadsAs, KeptWithin};
 ghost use Rattle.piece_defs.specs.Places.{AreWithin};
 ghost use Rattle.range_defs.specs.declared.TheConstants.{LONGEST_IMAGE};
 ghost use Rattle.rx_store.specs.ReadFaults.{IsReadCounted};
@@ -11,7 +11,7 @@ ghost use Rattle.ufs_inode.specs.Block.{IsBlockOf};
 ghost use Rattle.ufs_inode_defs.specs.Superblock.{wrong_field};
 ghost use Rattle.ufs_volume_defs.specs.Names as names_spec;
 ghost use Rattle.ufs_names.specs.Walked as walk_spec;
-ghost use Rattle.ufs_names.specs.Walked.{IsNamed, IsWalked, KeptWithin};
+ghost use Rattle.ufs_names.specs.Walked.{IsNamed, IsWalked};
 
 use crate::block::block_names;
 use crate::name::Name;

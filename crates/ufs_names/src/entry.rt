@@ -2,9 +2,10 @@
 ghost use Rattle.std.specs.Prelude.{◌≡◌, ◌≢◌, ◌&&◌, ◌+◌, ◌*◌, ◌^◌, ◌<◌, ◌≤◌, None, Err, IfOk, OnOk};
 ghost use Rattle.disk_defs.specs.Disk.{size_of, told_image};
 ghost use Rattle.disk_defs.specs.declared.Area.TheVariants.{Image};
-ghost use Rattle.image_reads.specs.Steps.{ReadsAs};
+ghost use Rattle.image_reads.specs.Steps.{ReadsAs, KeptWithin};
 ghost use Rattle.rx_ranges.specs.Path.{IsPath};
 ghost use Rattle.rx_store.specs.ReadFaults.{IsReadCounted};
+ghost use Rattle.ufs_blocks.specs.UnderWay.{Settles};
 ghost use Rattle.ufs_inode.specs.Block.{IsBlockOf};
 ghost use Rattle.ufs_inode_defs.specs.Inode as inode_spec;
 ghost use Rattle.ufs_inode_defs.specs.Superblock as superblock_spec;
@@ -12,7 +13,7 @@ ghost use Rattle.ufs_inode_defs.specs.Superblock.{wrong_field};
 ghost use Rattle.rx_store.specs.Answers.{Answers};
 ghost use Rattle.ufs_volume_defs.specs.Names as names_spec;
 ghost use Rattle.ufs_volume_defs.specs.Names.{is_known};
-ghost use Rattle.ufs_names.specs.Walked.{IsInodeOf, IsNamed, IsWalked, KeptWithin, Settles, limited_name};
+ghost use Rattle.ufs_names.specs.Walked.{IsInodeOf, IsNamed, IsWalked, limited_name};
 
 use crate::kept::KeptInode;
 use crate::name::Name;

@@ -2,7 +2,7 @@
 ghost use Rattle.std.specs.Prelude.{◌≡◌, ◌+◌, ◌≤◌, None, All, IfOk, OnOk, length};
 ghost use Rattle.disk_defs.specs.Disk.{size_of, told_image};
 ghost use Rattle.disk_defs.specs.declared.Area.TheVariants.{Image};
-ghost use Rattle.image_reads.specs.Steps.{ReadsAs};
+ghost use Rattle.image_reads.specs.Steps.{ReadsAs, KeptWithin};
 ghost use Rattle.range_defs.specs.declared.TheConstants.{LONGEST_IMAGE};
 ghost use Rattle.rx_store.specs.ReadFaults.{IsReadCounted};
 ghost use Rattle.ufs_inode.specs.Block.{IsBlockOf};
@@ -10,7 +10,7 @@ ghost use Rattle.ufs_inode_defs.specs.Blocks.{most_runs};
 ghost use Rattle.ufs_inode_defs.specs.Superblock.{wrong_field};
 ghost use Rattle.ufs_volume_defs.specs.Names as spec;
 ghost use Rattle.ufs_volume_defs.specs.Names.{most_names, most_path_bytes, path_bytes, volume_names};
-ghost use Rattle.ufs_names.specs.Walked.{IsInodeOf, IsNamed, IsWalked, KeptWithin};
+ghost use Rattle.ufs_names.specs.Walked.{IsInodeOf, IsNamed, IsWalked};
 
 use crate::kept::KeptInode;
 use crate::levels::names_below;

@@ -1,8 +1,8 @@
 //! The names that were found.
 ghost use Rattle.std.specs.Prelude.{◌≡◌, ◌+◌, ◌^◌, ◌<◌, ◌≤◌, ◌≢◌, ◌∷◌, [], Err, IfOk, length};
+ghost use Rattle.ufs_blocks.specs.UnderWay.{Settles};
 ghost use Rattle.ufs_volume_defs.specs.Names as spec;
 ghost use Rattle.ufs_volume_defs.specs.Names.{is_known, longest_path, most_names, most_path_bytes, path_bytes};
-ghost use Rattle.ufs_names.specs.Walked.{Settles};
 
 use crate::name::Name;
 use rx_store::{Bound, ReadFault};

@@ -1,10 +1,10 @@
 use Rattle.std.proofs.Common.{◌≡◌, ◌+◌, ◌≤◌, length, drop}
 use Rattle.disk_defs.specs.Disk.{told_image}
+use Rattle.image_reads.specs.Steps.{KeptWithin}
 use Rattle.image_reads.proofs.Coming.{IsCome}
 use Rattle.image_defs.specs.Through.{through}
 use Rattle.ufs_inode_defs.specs.Blocks.{most_runs}
 use Rattle.ufs_volume_defs.specs.Files.{number_file, numbers_of, named_files}
-use Rattle.ufs_names.specs.Walked.{KeptWithin}
 use Rattle.ufs_files.proofs.FileLaws.{AreMadeOf}
 use Rattle.ufs_files.proofs.RestLaws.{IsRestOf, taken}
 use Rattle.ufs_files.proofs.second.read_files.Given as goal

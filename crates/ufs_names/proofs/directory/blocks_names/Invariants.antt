@@ -1,9 +1,10 @@
 use Rattle.std.proofs.Common.{◌≡◌, ◌+◌, ◌*◌}
 use Rattle.disk_defs.specs.Disk.{told_image}
+use Rattle.image_reads.specs.Steps.{KeptWithin}
 use Rattle.ufs_inode.specs.Block.{IsBlockOf}
 use Rattle.ufs_inode_defs.specs.Superblock.{block_size}
 use Rattle.ufs_names.specs.Passed.{HasPassed}
-use Rattle.ufs_names.specs.Walked.{IsWalked, KeptWithin}
+use Rattle.ufs_names.specs.Walked.{IsWalked}
 use Rattle.ufs_names.proofs.BlocksLeft.{AreLeft}
 use Rattle.ufs_names.proofs.directory.blocks_names.Given as goal
 

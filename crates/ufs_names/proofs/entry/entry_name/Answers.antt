@@ -2,9 +2,9 @@ use Rattle.std.specs.Prelude.{refl}
 use Rattle.std.proofs.Common.{◌+◌, arith, ap}
 use Rattle.disk_defs.specs.Disk.{told_image}
 use Rattle.image_reads.proofs.Steps.{begins, comes_value, comes_fault, comes_rest, ends_with}
+use Rattle.image_reads.specs.Steps.{KeptWithin}
 use Rattle.ufs_inode_defs.specs.Inode.{inode_named}
 use Rattle.ufs_volume_defs.specs.Names.{entry_name, found_name}
-use Rattle.ufs_names.specs.Walked.{KeptWithin}
 use Rattle.ufs_names.proofs.WalkLaws.{settles_reads}
 use Rattle.ufs_names.proofs.FoundLaws.{on_ok, counted_calm, named_as}
 use Rattle.ufs_names.proofs.entry.entry_name.Goals as goal

@@ -1,10 +1,11 @@
 use Rattle.std.proofs.Common.{◌≡◌, ◌+◌, drop}
 use Rattle.disk_defs.specs.Disk.{told_image}
+use Rattle.image_reads.specs.Steps.{KeptWithin}
 use Rattle.image_reads.proofs.Coming.{IsCome}
 use Rattle.image_defs.specs.Through.{through}
 use Rattle.ufs_volume_defs.specs.Names.{directory_names}
 use Rattle.ufs_inode.specs.Block.{IsBlockOf}
-use Rattle.ufs_names.specs.Walked.{IsWalked, KeptWithin}
+use Rattle.ufs_names.specs.Walked.{IsWalked}
 use Rattle.ufs_names.proofs.levels.level_names.Given as goal
 
 -- the names of the directories so far were found, and those of the others are left

@@ -1,10 +1,11 @@
 use Rattle.std.proofs.Common.{◌≡◌, ◌+◌, ◌-◌}
 use Rattle.std.specs.List.{All}
 use Rattle.disk_defs.specs.Disk.{told_image}
+use Rattle.image_reads.specs.Steps.{KeptWithin}
 use Rattle.image_reads.proofs.Coming.{IsCome}
 use Rattle.ufs_volume_defs.specs.Names.{names_below}
 use Rattle.ufs_inode.specs.Block.{IsBlockOf}
-use Rattle.ufs_names.specs.Walked.{IsNamed, IsWalked, KeptWithin}
+use Rattle.ufs_names.specs.Walked.{IsNamed, IsWalked}
 use Rattle.ufs_names.proofs.levels.names_below.Given as goal
 
 -- the names of the depths so far were found
