@@ -25,8 +25,9 @@ mod tests;
 
 use crate::listing::listing_of;
 use crate::settling::{Settled, settle_files};
+use range_defs::{Claim, Range};
 use rule_defs::Rules;
-use rx_ranges::{Claim, FillMap, Listing, MAX_RANGES, Plan, Range, RangeList};
+use rx_ranges::{FillMap, Listing, MAX_RANGES, Plan, RangeList};
 use rx_store::{Bound, Store};
 use rx_tree::Tree;
 use std::alloc::{AllocError, Global};

@@ -11,7 +11,8 @@ ghost use Rattle.rule_defs.specs.declared.Rule.{Rule as RuleValue};
 ghost use Rattle.plan_defs.specs.Plan.{is_painted, part_ranges, touches_planned, file_lines, listed_as, lines_of, HasPath};
 
 use crate::settling::push_disk_ranges;
-use rx_ranges::{FillMap, ListKind, Listed, NoMemory, Range, Text};
+use range_defs::Range;
+use rx_ranges::{FillMap, ListKind, Listed, NoMemory, Text};
 use rx_tree::{FileEntry, Part, Tree};
 use std::alloc::Global;
 

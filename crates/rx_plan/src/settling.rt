@@ -5,8 +5,9 @@ ghost use Rattle.std.specs.List.{flat_map, list_any};
 ghost use Rattle.rule_defs.specs.Settle.{last_component, holds, is_plain_file, settling_rule, disk_range, content_range, claim_by, claims_on};
 ghost use Rattle.plan_defs.specs.Plan.{all_claims, claim_some, listed_as};
 
+use range_defs::{Claim, Range};
 use rule_defs::{Action, Condition, Rule};
-use rx_ranges::{Claim, NoMemory, Piece, PieceKind, Range, Text};
+use rx_ranges::{NoMemory, Piece, PieceKind, Text};
 use rx_tree::{FileEntry, Kind, Part, Role};
 use std::alloc::Global;
 

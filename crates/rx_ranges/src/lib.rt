@@ -25,6 +25,5 @@ pub use pieces::{Piece, PieceKind, Pieces};
 pub use plan::{
     ListKind, Listed, Listing, MAX_LISTED, MAX_LISTING_BYTES, MAX_RANGES, MAX_RULE, Plan,
 };
-pub use range_defs::{Claim, Range};
 pub use ranges::RangeList;
 pub use text::{MAX_PATH, NoMemory, Text};

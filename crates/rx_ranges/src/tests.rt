@@ -2,6 +2,7 @@
 ghost use Rattle.std.specs.Prelude.{◌≡◌};
 
 use super::*;
+use range_defs::{Claim, Range};
 use std::alloc::Global;
 use std::process::Abort;
 use std::test::Fail;

@@ -23,7 +23,8 @@ mod tests;
 
 use crate::lines::{head_lines, listed_head, range_line};
 use crate::pages::{Page, put};
-use rx_ranges::{Claim, Listed, Plan};
+use range_defs::Claim;
+use rx_ranges::{Listed, Plan};
 use rx_store::{Fault, Sink, write_all};
 use text_defs::ReportState;
 

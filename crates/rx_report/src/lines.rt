@@ -7,7 +7,8 @@ use crate::pages::Page;
 use arrayvec::ArrayString;
 use itoa::{Buffer, Integer};
 use name_defs::hex_digit;
-use rx_ranges::{Claim, ListKind, Listed, Plan};
+use range_defs::Claim;
+use rx_ranges::{ListKind, Listed, Plan};
 use text_defs::ReportState;
 
 /// Room for each line, but for what a path has of it.

@@ -2,7 +2,8 @@
 ghost use Rattle.std.specs.Prelude.{◌≡◌, Some};
 
 use super::*;
-use rx_ranges::{FillMap, ListKind, Listing, Range, Text};
+use range_defs::Range;
+use rx_ranges::{FillMap, ListKind, Listing, Text};
 use rx_store::MemSink;
 use std::alloc::{AllocError, Global};
 use std::test::Fail;
