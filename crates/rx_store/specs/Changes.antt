@@ -1,13 +1,10 @@
 -- The changes to a store in memory as they are recorded: the bytes of a write stand in a log.
 use Rattle.std.specs.Prelude.{◌≡◌, ℕ, ◌+◌, ◌≤◌, List, length, map, reverse, vec_len, vec_capacity}
 use Rattle.std.specs.declared.vec.Vec.{Vec}
-use Rattle.std.proofs.Common.{subst, sym}
 use Rattle.bytes_defs.specs.Bytes.{part}
 use Rattle.disk_defs.specs.Story.{Held, Change, Event, Made, Story, held_by}
-use Rattle.disk_defs.specs.Memory.{FitsInMemory}
 use Rattle.disk_defs.specs.declared.Area.{Area}
 use Rattle.disk_defs.specs.declared.Area.TheVariants.{Image, Journal}
-use Rattle.rx_store.specs.Vecs.{length_fits}
 use Rattle.disk_defs.specs.Story as story
 use Rattle.rx_store.specs.declared.changes.Recorded.{Recorded}
 use Rattle.rx_store.specs.declared.changes.Recorded.TheVariants.{Write, Cut, Sync}
@@ -42,9 +39,6 @@ held_of image journal = record { image = image.items; journal = journal.items }
 -- a past after which they hold what they do
 abbrev pub IsHeldAs : {Z : Type 0} → Story → Vec ℕ Z → Vec ℕ Z → Type 0
 IsHeldAs story image journal = held_by story ≡ held_of image journal
-
-pub fits_in_memory : {Z : Type 0} (story : Story) (image journal : Vec ℕ Z) → IsHeldAs story image journal → FitsInMemory (held_by story)
-fits_in_memory story image journal kept = subst FitsInMemory (sym kept) (length_fits image, length_fits journal)
 
 -- so many bytes may be written from a place of an area on, and there is room for them
 abbrev pub FitsIn : {Z : Type 0} → Area → ℕ → ℕ → Vec ℕ Z → Vec ℕ Z → Type 0

@@ -4,4 +4,3 @@ pub mod Files
 pub mod Outside
 pub mod ReadFaults
 pub mod Readers
-pub mod Vecs

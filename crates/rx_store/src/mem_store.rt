@@ -1,9 +1,9 @@
 //! A store in memory, whose calls fail where they are told to.
-ghost use Rattle.std.specs.Prelude.{◌≡◌, ◌+◌, ◌≤◌, [], false, length, max, min, vec_len, vec_capacity, IfOk, OnOk, OnErr, IsErr, Contains};
+ghost use Rattle.std.specs.Prelude.{◌≡◌, ◌+◌, ◌≤◌, [], false, length, max, vec_len, vec_capacity, IfOk, OnOk, OnErr, IsErr, Contains};
 ghost use Rattle.disk_defs.specs.Disk.{size_of, state_after, IsAfterFailed, MayWrite, ReadsFrom};
 ghost use Rattle.disk_defs.specs.Story.{Write, Cut, Sync, changed};
 ghost use Rattle.disk_defs.specs.Count.{FailedIn, FailedInBoth, IsCountedIn, IsCountedInBoth, faults_after, faults_after_in, faults_after_in_both, no_faults, one_more, one_more_in, one_more_in_both};
-ghost use Rattle.disk_defs.specs.Memory.{IsRefused, has_room, held_in_memory, room_after, state_in_memory};
+ghost use Rattle.disk_defs.specs.Memory.{FitsInMemory, IsRefused, has_room, held_in_memory, room_after};
 ghost use Rattle.bytes_defs.specs.Bytes.{part};
 ghost use Rattle.rx_store.specs.Changes.{FitsIn, IsHeldAs, held_of};
 
@@ -115,18 +115,19 @@ pub struct MemStore {
     changes: Changes,
     calls: Calls,
     ghost kept: { IsHeldAs changes.story image journal },
+    ghost fits: { FitsInMemory (held_of image journal) },
 }
 
 impl Model for MemStore {
     ghost use Rattle.std.specs.Prelude.{◌≤◌, vec_len, vec_capacity};
-    ghost use Rattle.disk_defs.specs.Memory.{StoreInMemory};
-    ghost use Rattle.rx_store.specs.Changes.{fits_in_memory};
+    ghost use Rattle.std.proofs.Common.{subst, sym};
+    ghost use Rattle.disk_defs.specs.Memory.{FitsInMemory, StoreInMemory};
 
     ghost Value = { StoreInMemory };
 
     ghost view = { λ store. record {
       story = store.changes.story;
-      fits = fits_in_memory store.changes.story store.image store.journal store.kept;
+      fits = subst FitsInMemory (sym store.kept) store.fits;
       room = record { journal = store.room; changes = store.changes.changes; bytes = store.changes.bytes };
       failing = store.calls.failing.items;
       calls = store.calls.made;
