@@ -4,7 +4,7 @@ ghost use Rattle.disk_defs.specs.Disk.{size_of, state_after, IsAfterFailed, MayW
 ghost use Rattle.disk_defs.specs.Story.{Write, Cut, Sync};
 ghost use Rattle.disk_defs.specs.declared.Area.{Area as AreaValue};
 ghost use Rattle.disk_defs.specs.Count.{IsCounted, IsCountedIn, IsCountedInBoth, no_faults};
-ghost use Rattle.rx_store.specs.Files.{IsMeasured, area_file, file_of, state_of_files};
+ghost use Rattle.rx_store.specs.Files.{IsMeasured, area_file, file_of};
 
 use crate::outside::{Outcome, Outside, ReadsFrom, WritesTo};
 use crate::store::Store;

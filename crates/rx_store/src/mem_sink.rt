@@ -1,5 +1,5 @@
 //! A sink in memory, with room for so many bytes.
-ghost use Rattle.std.specs.Prelude.{OnOk, ◌≡◌, ◌+◌, ◌-◌, ◌<◌, ◌≤◌, ◌++◌, length, take, min, vec_len, vec_capacity, Some, IfOk, OnErr, IsErr};
+ghost use Rattle.std.specs.Prelude.{◌≡◌, ◌-◌, ◌<◌, ◌≤◌, length, take, min, IfOk, OnErr, IsErr};
 ghost use Rattle.disk_defs.specs.Stream.{taken_with};
 ghost use Rattle.disk_defs.specs.Count.{IsCounted, faults_after};
 ghost use Rattle.disk_defs.specs.Memory.{sink_with_room};

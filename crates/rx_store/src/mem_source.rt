@@ -1,5 +1,5 @@
 //! A source in memory, of whose reads one may fail.
-ghost use Rattle.std.specs.Prelude.{OnOk, ◌≡◌, ◌<◌, ◌≤◌, [], Some, length, take, min, IfOk, OnErr, IsErr};
+ghost use Rattle.std.specs.Prelude.{◌≡◌, ◌<◌, ◌≤◌, [], Some, length, take, min, IfOk, OnErr, IsErr};
 ghost use Rattle.disk_defs.specs.Stream.{GivesFirst, rest_after};
 ghost use Rattle.disk_defs.specs.Count.{IsCounted, one_more, faults_after};
 ghost use Rattle.disk_defs.specs.Memory.{source_of};

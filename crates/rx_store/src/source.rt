@@ -1,5 +1,5 @@
 //! The source of a text.
-ghost use Rattle.std.specs.Prelude.{◌≡◌, ◌<◌, ◌≤◌, ℕ, [], List, Option, length, IfOk, IfSome, OnOk, OnErr};
+ghost use Rattle.std.specs.Prelude.{◌≡◌, ◌<◌, ◌≤◌, ℕ, [], List, Option, length, IfOk, IfSome, OnErr};
 ghost use Rattle.disk_defs.specs.Stream.{GivesFirst, rest_after};
 ghost use Rattle.disk_defs.specs.Count.{IsCounted};
 

@@ -1,5 +1,5 @@
 //! A source over a reader of std.
-ghost use Rattle.std.specs.Prelude.{OnOk, ◌≡◌, ◌≤◌, length, IfOk, OnErr, IsErr, IsTrue, is_none};
+ghost use Rattle.std.specs.Prelude.{◌≡◌, ◌≤◌, length, IfOk, IsErr, IsTrue, is_none};
 ghost use Rattle.disk_defs.specs.Count.{IsCounted};
 
 use crate::outside::{Outcome, Outside, Reads};

@@ -1,5 +1,5 @@
 //! Tests of what no clause says: that memory is enough, and what real files give.
-ghost use Rattle.std.specs.Prelude.{◌≡◌, ◌≤◌, IfOk};
+ghost use Rattle.std.specs.Prelude.{◌≤◌, IfOk};
 
 use super::{
     Area, Fault, FileStore, MemSink, MemSource, MemStore, NoMemory, Opened, ReadError, Sink,
