@@ -1,4 +1,5 @@
-//! One call on what std reads or writes, what it came to, and what is counted with it. A count rises nowhere else.
+//! One call on what std reads or writes, what it came to, and what is counted with it. The faults of the edges over std are
+//! counted nowhere else; what is in memory counts its own.
 //!
 //! Std's contracts don't say when a call fails. So each trait here has a relation of what a call answered, which any
 //! implementation may give a meaning: what is proved of a call holds under each meaning, and so speaks of the very answer
