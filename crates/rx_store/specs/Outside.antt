@@ -5,6 +5,7 @@ use Rattle.std.specs.declared.io.Error.{Error}
 use Rattle.std.specs.declared.io.ErrorKind.{ErrorKind}
 use Rattle.std.specs.declared.io.ErrorKind.TheVariants.{Interrupted}
 use Rattle.disk_defs.specs.Count.{one_more}
+use Rattle.disk_defs.specs.declared.Fault.{Fault}
 use Rattle.rx_store.specs.declared.outside.Outcome.{Outcome}
 use Rattle.rx_store.specs.declared.outside.Outcome.TheVariants.{Bytes, Again, Failed}
 
@@ -55,3 +56,9 @@ abbrev pub IfBytes : Outcome → (ℕ → Type 0) → Type 0
 IfBytes (Bytes count) Holds = Holds count
 IfBytes Again Holds = Unit {0}
 IfBytes Failed Holds = Unit {0}
+
+-- The end of a loop that makes an interrupted call again: no call failed before the last one, which succeeded where the loop answers a
+-- success, and where it answers a fault failed and wasn't interrupted, unless no call was to be made again any more.
+abbrev pub EndsWith : {D T : Type 0} → (D → Result ℕ Error → D → Type 0) → Bool → Calls D → Calls D → Result T Fault → Type 0
+EndsWith {D} Answered due before now (Ok value) = (last : Calls D) × (count : ℕ) × (last.faults ≡ before.faults) × Came Answered due last now (Bytes count) × IsNoted (Bytes count) last now
+EndsWith {D} Answered due before now (Err fault) = (last : Calls D) × (last.faults ≡ before.faults) × Came Answered due last now Failed × IsNoted Failed last now

@@ -1,6 +1,7 @@
 //! A sink over a writer of std.
-ghost use Rattle.std.specs.Prelude.{◌≡◌, ◌<◌, ◌≤◌, length, IfOk};
+ghost use Rattle.std.specs.Prelude.{◌≡◌, ◌<◌, ◌≤◌, length, IfOk, nat_lt};
 ghost use Rattle.disk_defs.specs.Count.{IsCounted};
+ghost use Rattle.rx_store.specs.Outside.{EndsWith};
 
 use crate::outside::{Outcome, Outside, Writes};
 use crate::sink::Sink;
@@ -41,6 +42,7 @@ fn write_answered<W: Writes>(writer: &mut Outside<W>, bytes: &[u8]) -> Result<us
     ensures within { IfOk result (λ count. count ≤ length bytes.now) }
     ensures progress { IfOk result (λ count. 0 < length bytes.now → 0 < count) }
     ensures counted { IsCounted result writer.old.faults writer.new.faults }
+    ensures again { EndsWith W.answered (nat_lt 0 (length bytes.now)) writer.old writer.new result }
 {
     'again: loop {
         match writer.write(bytes) {

@@ -1,6 +1,7 @@
 //! A source over a reader of std.
-ghost use Rattle.std.specs.Prelude.{◌≡◌, ◌≤◌, length, IfOk, IsErr, IsTrue, is_none};
+ghost use Rattle.std.specs.Prelude.{◌≡◌, ◌≤◌, length, IfOk, IsErr, IsTrue, is_none, false};
 ghost use Rattle.disk_defs.specs.Count.{IsCounted};
+ghost use Rattle.rx_store.specs.Outside.{EndsWith};
 
 use crate::outside::{Outcome, Outside, Reads};
 use crate::source::Source;
@@ -41,6 +42,7 @@ fn read_answered<R: Reads>(reader: &mut Outside<R>, buf: &mut [u8]) -> Result<us
     ensures missing { IsTrue (is_none reader.old.device) → IsErr result }
     ensures same { is_none reader.new.device ≡ is_none reader.old.device }
     ensures counted { IsCounted result reader.old.faults reader.new.faults }
+    ensures again { EndsWith R.answered false reader.old reader.new result }
 {
     'again: loop {
         match reader.read(buf) {
