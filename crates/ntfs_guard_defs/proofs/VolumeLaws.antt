@@ -236,7 +236,7 @@ module _ (image : List ℕ) (mft : Mft) (files : List FoundFile) (strides : mft.
 -- ---- the boot sector
 
 strides_of : (number : ℕ) → is_one_of (1024 ∷ 4096 ∷ []) number ≡ true → number % 512 ≡ 0
-strides_of number is = one_of_holds (λ n. n % 512 ≡ 0) (1024 ∷ 4096 ∷ []) (refl, refl, tt) number is
+strides_of number is = one_of_holds (λ n. n % 512 ≡ 0) (1024 ∷ 4096 ∷ []) (refl, (refl, tt)) number is
 
 pub record IsBootOf (at : ℕ) (boot : Boot) : Type 0 where
   pub at_is : boot.at ≡ at
