@@ -2,8 +2,8 @@
 ghost use Rattle.std.specs.Prelude.{◌≤◌, IfOk};
 
 use super::{
-    Area, Fault, FileStore, MemSink, MemSource, MemStore, NoMemory, Opened, ReadError, Sink,
-    Source, StdSink, StdSource, Store, read_to_end, write_all,
+    Area, Fault, FileStore, MemSink, MemSource, MemStore, Opened, ReadError, Sink, Source, StdSink,
+    StdSource, Store, read_to_end, write_all,
 };
 use std::alloc::{AllocError, Global};
 use std::fs::{File, OpenOptions};
@@ -13,169 +13,105 @@ use std::process::Abort;
 use std::test::Fail;
 use std::{env, fs, io, process};
 
-/// Reads two bytes where they may be read, after a call for the size.
-fn read<S: Store>(store: &mut S, area: Area, at: u64) -> Result<[u8; 2], Fault> {
+/// A call on a store, behind one for the size where it has to fit. Two bytes are read and written at a time.
+#[derive(Clone, Copy)]
+enum Call {
+    Len(Area),
+    Read(Area, u64),
+    Write(Area, u64, [u8; 2]),
+    Cut(u64),
+    Sync,
+}
+
+/// Reads two bytes as a number.
+fn read<S: Store>(store: &mut S, area: Area, at: u64) -> Result<u64, Fault> {
     let size = store.len(area)?;
     if at > size || 2 > size - at {
         return Err(Fault);
     }
     let mut buf = [0; 2];
     store.read_at(area, at, &mut buf)?;
-    Ok(buf)
+    Ok(u64::from(u16::from_be_bytes(buf)))
 }
 
-fn reads<S: Store>(rt: &impl Abort, store: &mut S, rows: &[(Area, u64, Result<[u8; 2], Fault>)]) {
-    for (area, at, answer) in rows {
-        assert_eq!(*rt; read(store, *area, *at), *answer);
-    }
-}
-
-/// Writes bytes where they may be written.
-fn write<S: Store>(store: &mut S, area: Area, at: u64, bytes: &[u8]) -> Result<(), Fault> {
+/// Writes two bytes.
+fn write<S: Store>(store: &mut S, area: Area, at: u64, bytes: [u8; 2]) -> Result<u64, Fault> {
     let size = store.len(area)?;
     let len = match area {
-        Area::Image => bytes.len() as u64,
+        Area::Image => 2,
         Area::Journal => 0,
     };
     if at > size || len > size - at {
         return Err(Fault);
     }
-    store.write_at(area, at, bytes)
+    store.write_at(area, at, &bytes)?;
+    Ok(0)
 }
 
-fn writes<S: Store>(
-    rt: &impl Abort,
-    store: &mut S,
-    rows: &[(Area, u64, &[u8], Result<(), Fault>)],
-) {
-    for (area, at, bytes, answer) in rows {
-        assert_eq!(*rt; write(store, *area, *at, bytes), *answer);
-    }
-}
-
-/// Cuts the journal where it is that long.
-fn cut<S: Store>(store: &mut S, len: u64) -> Result<(), Fault> {
+/// Cuts the journal.
+fn cut<S: Store>(store: &mut S, len: u64) -> Result<u64, Fault> {
     if len > store.len(Area::Journal)? {
         return Err(Fault);
     }
-    store.cut_journal(len)
+    store.cut_journal(len)?;
+    Ok(0)
 }
 
-/// A store with room for a journal of four bytes, and for four changes that write so many bytes.
-fn store_of(alloc: Global, log: u64) -> Result<MemStore, NoMemory> {
+/// Makes a call, and gives its number: a size, two bytes, or 0.
+fn called<S: Store>(store: &mut S, call: Call) -> Result<u64, Fault> {
+    match call {
+        Call::Len(area) => store.len(area),
+        Call::Read(area, at) => read(store, area, at),
+        Call::Write(area, at, bytes) => write(store, area, at, bytes),
+        Call::Cut(len) => cut(store, len),
+        Call::Sync => {
+            store.sync()?;
+            Ok(0)
+        }
+    }
+}
+
+fn makes<S: Store>(rt: &impl Abort, store: &mut S, rows: &[(Call, Result<u64, Fault>)]) {
+    for (call, answer) in rows {
+        assert_eq!(*rt; called(store, *call), *answer);
+    }
+}
+
+/// The calls with the numbers 3 and 5 are to fail, the journal has room for four bytes, and four changes are recorded.
+const IN_MEMORY: &[(Call, Result<u64, Fault>)] = &[
+    (Call::Read(Area::Image, 2), Ok(0x6364)),
+    (Call::Len(Area::Journal), Err(Fault)),
+    (Call::Read(Area::Image, 3), Err(Fault)),
+    (Call::Read(Area::Journal, 1), Ok(0x797A)),
+    (Call::Write(Area::Image, 2, *b"XY"), Ok(0)),
+    (Call::Write(Area::Journal, 3, *b"12"), Err(Fault)),
+    (Call::Cut(1), Ok(0)),
+    (Call::Write(Area::Journal, 1, *b"12"), Ok(0)),
+    (Call::Sync, Ok(0)),
+    (Call::Len(Area::Journal), Ok(3)),
+    (Call::Sync, Err(Fault)),
+];
+
+#[test]
+fn a_store_in_memory_is_read_and_written(rt: HostRuntime) -> Result<(), Fail> {
+    let alloc = rt.alloc();
     let image = Vec::from_slice(alloc, b"abcdef")?;
     let journal = Vec::from_slice(alloc, b"xyz")?;
-    MemStore::new(alloc, image, journal, 4, 4, log)
-}
-
-fn holds(rt: &impl Abort, store: &MemStore, image: &[u8], journal: &[u8]) {
-    assert_eq!(*rt; store.image(), image);
-    assert_eq!(*rt; store.journal(), journal);
-}
-
-const READS: &[(Area, u64, Result<[u8; 2], Fault>)] = &[
-    (Area::Image, 2, Ok(*b"cd")),
-    (Area::Journal, 0, Err(Fault)),
-    (Area::Image, 3, Err(Fault)),
-    (Area::Journal, 1, Ok(*b"yz")),
-];
-
-#[test]
-fn a_store_in_memory_fails_where_it_is_told_to(rt: HostRuntime) -> Result<(), Fail> {
-    let mut store = store_of(rt.alloc(), 0)?;
-    store.fail_at(vec![in rt.alloc(); 3, 5]?);
-    reads(&rt, &mut store, READS);
-    assert_eq!(rt; store.faults(), 2);
-    Ok(())
-}
-
-/// Writes to both areas, and gives the journal's size then.
-fn change_both<S: Store>(store: &mut S) -> Result<u64, Fault> {
-    write(store, Area::Image, 2, b"XY")?;
-    cut(store, 1)?;
-    write(store, Area::Journal, 1, b"123")?;
-    store.sync()?;
-    store.len(Area::Journal)
-}
-
-#[test]
-fn a_store_in_memory_is_written(rt: HostRuntime) -> Result<(), Fail> {
-    let mut store = store_of(rt.alloc(), 5)?;
-    assert_eq!(rt; change_both(&mut store), Ok(4));
-    assert_eq!(rt; store.sync(), Err(Fault));
-    holds(&rt, &store, b"abXYef", b"x123");
-    Ok(())
-}
-
-const WRITES: &[(Area, u64, &[u8], Result<(), Fault>)] = &[
-    (Area::Journal, 3, b"12", Err(Fault)),
-    (Area::Journal, 3, b"1", Ok(())),
-    (Area::Journal, 0, b"ab", Err(Fault)),
-];
-
-#[test]
-fn a_store_in_memory_is_written_while_there_is_room(rt: HostRuntime) -> Result<(), Fail> {
-    let mut store = store_of(rt.alloc(), 2)?;
-    writes(&rt, &mut store, WRITES);
-    assert_eq!(rt; store.faults(), 2);
-    holds(&rt, &store, b"abcdef", b"xyz1");
-    Ok(())
-}
-
-/// Reads up to three bytes, and says how many; the rest of the buffer is dashes.
-fn next<R: Source>(source: &mut R) -> Result<(usize, [u8; 3]), Fault> {
-    let mut buf = *b"---";
-    let count = source.read(&mut buf)?;
-    Ok((count, buf))
-}
-
-fn gives<R: Source>(rt: &impl Abort, source: &mut R, answers: &[Result<(usize, [u8; 3]), Fault>]) {
-    for answer in answers {
-        assert_eq!(*rt; next(source), *answer);
-    }
-}
-
-const FAILS_ONCE: &[Result<(usize, [u8; 3]), Fault>] = &[
-    Ok((3, *b"hel")),
-    Err(Fault),
-    Ok((2, *b"lo-")),
-    Ok((0, *b"---")),
-];
-
-#[test]
-fn a_source_in_memory_fails_once(rt: HostRuntime) -> Result<(), Fail> {
-    let mut source = MemSource::new(Vec::from_slice(rt.alloc(), b"hello")?, Some(2));
-    gives(&rt, &mut source, FAILS_ONCE);
-    Ok(())
-}
-
-fn takes<K: Sink>(rt: &impl Abort, sink: &mut K, rows: &[(&[u8], Result<usize, Fault>)]) {
-    for (bytes, answer) in rows {
-        assert_eq!(*rt; sink.write(bytes), *answer);
-    }
-}
-
-const ROOM_FOR_FOUR: &[(&[u8], Result<usize, Fault>)] = &[
-    (b"abc", Ok(3)),
-    (b"de", Ok(1)),
-    (b"e", Err(Fault)),
-    (b"", Ok(0)),
-];
-
-#[test]
-fn a_sink_in_memory_takes_what_fits(rt: HostRuntime) -> Result<(), Fail> {
-    let mut sink = MemSink::new(rt.alloc(), 4)?;
-    takes(&rt, &mut sink, ROOM_FOR_FOUR);
-    assert!(rt; sink.bytes() == b"abcd".as_slice());
+    let mut store = MemStore::new(alloc, image, journal, 4, 4, 6)?;
+    store.fail_at(vec![in alloc; 3, 5]?);
+    makes(&rt, &mut store, IN_MEMORY);
+    assert_eq!(rt; store.faults(), 4);
+    assert!(rt; store.image() == b"abXYef".as_slice());
+    assert!(rt; store.journal() == b"x12".as_slice());
     Ok(())
 }
 
 #[test]
 fn a_text_is_written_whole_where_it_fits(rt: HostRuntime) -> Result<(), Fail> {
-    let mut short = MemSink::new(rt.alloc(), 4)?;
-    let mut long = MemSink::new(rt.alloc(), 5)?;
-    assert_eq!(rt; write_all(&mut short, b"hello"), Err(Fault));
-    assert_eq!(rt; write_all(&mut long, b"hello"), Ok(()));
+    let mut sink = MemSink::new(rt.alloc(), 8)?;
+    assert_eq!(rt; write_all(&mut sink, b"hello"), Ok(()));
+    assert_eq!(rt; write_all(&mut sink, b"hello"), Err(Fault));
+    assert!(rt; sink.bytes() == b"hellohel".as_slice());
     Ok(())
 }
 
@@ -226,77 +162,85 @@ fn taken(rt: &HostRuntime, path: &PathBuf) -> io::Result<String> {
     Ok(text)
 }
 
-fn opened(rt: &HostRuntime, path: &PathBuf) -> Opened {
-    match File::open(rt, path) {
+fn opened(rt: &HostRuntime, path: &PathBuf, may_write: bool) -> Opened {
+    match OpenOptions::new()
+        .read(true)
+        .write(may_write)
+        .open(rt, path)
+    {
         Ok(file) => Opened::Open(file),
         Err(_) => Opened::Failed,
     }
 }
 
-fn opened_to_write(rt: &HostRuntime, path: &PathBuf) -> Opened {
-    match OpenOptions::new().read(true).write(true).open(rt, path) {
-        Ok(file) => Opened::Open(file),
-        Err(_) => Opened::Failed,
-    }
-}
-
-fn sizes<S: Store>(
-    rt: &impl Abort,
-    store: &mut S,
-    image: Result<u64, Fault>,
-    journal: Result<u64, Fault>,
-) {
-    assert_eq!(*rt; store.len(Area::Image), image);
-    assert_eq!(*rt; store.len(Area::Journal), journal);
-}
-
-const WHOLE: &[(Area, u64, Result<[u8; 2], Fault>)] = &[(Area::Image, 2, Ok(*b"cd"))];
-
-const CUT: &[(Area, u64, Result<[u8; 2], Fault>)] = &[(Area::Image, 2, Err(Fault))];
-
-#[test]
-fn a_store_reads_a_file_until_it_is_cut(rt: HostRuntime) -> Result<(), Fail> {
-    let path = file_of(&rt, "image", "abcdef")?;
-    let mut store = FileStore::new(opened(&rt, &path), Opened::Absent);
-    reads(&rt, &mut store, WHOLE);
-    fs::write(&rt, &path, "abc")?;
-    reads(&rt, &mut store, CUT);
-    sizes(&rt, &mut store, Ok(6), Ok(0));
-    Ok(fs::remove_file(&rt, &path)?)
-}
+const WRITTEN: &[(Call, Result<u64, Fault>)] = &[
+    (Call::Write(Area::Image, 2, *b"XY"), Ok(0)),
+    (Call::Cut(1), Ok(0)),
+    (Call::Write(Area::Journal, 1, *b"12"), Ok(0)),
+    (Call::Sync, Ok(0)),
+    (Call::Len(Area::Journal), Ok(3)),
+];
 
 #[test]
 fn a_store_writes_its_files(rt: HostRuntime) -> Result<(), Fail> {
     let image = file_of(&rt, "written", "abcdef")?;
     let journal = file_of(&rt, "journal", "xyz")?;
-    let mut store = FileStore::new(opened_to_write(&rt, &image), opened_to_write(&rt, &journal));
-    assert!(rt; change_both(&mut store) == Ok(4));
+    let mut store = FileStore::new(opened(&rt, &image, true), opened(&rt, &journal, true));
+    makes(&rt, &mut store, WRITTEN);
     assert!(rt; taken(&rt, &image)?.as_str() == "abXYef");
-    assert!(rt; taken(&rt, &journal)?.as_str() == "x123");
+    assert!(rt; taken(&rt, &journal)?.as_str() == "x12");
     Ok(())
 }
 
-const REFUSED_WRITES: &[(Area, u64, &[u8], Result<(), Fault>)] = &[
-    (Area::Image, 2, b"--", Err(Fault)),
-    (Area::Journal, 0, b"-", Err(Fault)),
+/// A file that may only be read, and no journal.
+const READ: &[(Call, Result<u64, Fault>)] = &[
+    (Call::Read(Area::Image, 2), Ok(0x6364)),
+    (Call::Write(Area::Image, 2, *b"--"), Err(Fault)),
+    (Call::Write(Area::Journal, 0, *b"--"), Err(Fault)),
+];
+
+/// The file has fewer bytes than it had.
+const CUT: &[(Call, Result<u64, Fault>)] = &[
+    (Call::Read(Area::Image, 2), Err(Fault)),
+    (Call::Len(Area::Image), Ok(6)),
+    (Call::Len(Area::Journal), Ok(0)),
 ];
 
 #[test]
-fn a_store_that_may_only_read_is_not_written(rt: HostRuntime) -> Result<(), Fail> {
-    let path = file_of(&rt, "kept", "abcdef")?;
-    let mut store = FileStore::new(opened(&rt, &path), Opened::Absent);
-    writes(&rt, &mut store, REFUSED_WRITES);
-    assert!(rt; taken(&rt, &path)?.as_str() == "abcdef");
+fn a_store_reads_a_file_until_it_is_cut(rt: HostRuntime) -> Result<(), Fail> {
+    let path = file_of(&rt, "image", "abcdef")?;
+    let mut store = FileStore::new(opened(&rt, &path, false), Opened::Absent);
+    makes(&rt, &mut store, READ);
+    fs::write(&rt, &path, "abc")?;
+    makes(&rt, &mut store, CUT);
+    assert!(rt; taken(&rt, &path)?.as_str() == "abc");
     Ok(())
 }
 
+const NO_FILE: &[(Call, Result<u64, Fault>)] = &[
+    (Call::Len(Area::Image), Err(Fault)),
+    (Call::Len(Area::Journal), Err(Fault)),
+];
+
 #[test]
 fn a_store_fails_where_no_file_is(rt: HostRuntime) -> Result<(), Fail> {
-    let missing = opened(&rt, &place(&rt, "missing")?);
-    let directory = opened(&rt, &env::temp_dir(&rt)?);
-    let mut store = FileStore::new(missing, directory);
-    sizes(&rt, &mut store, Err(Fault), Err(Fault));
+    let missing = opened(&rt, &place(&rt, "missing")?, false);
+    let directory = opened(&rt, &env::temp_dir(&rt)?, false);
+    makes(&rt, &mut FileStore::new(missing, directory), NO_FILE);
     Ok(())
+}
+
+/// Reads up to three bytes, and says how many; the rest of the buffer is dashes.
+fn next<R: Source>(source: &mut R) -> Result<(usize, [u8; 3]), Fault> {
+    let mut buf = *b"---";
+    let count = source.read(&mut buf)?;
+    Ok((count, buf))
+}
+
+fn gives<R: Source>(rt: &impl Abort, source: &mut R, answers: &[Result<(usize, [u8; 3]), Fault>]) {
+    for answer in answers {
+        assert_eq!(*rt; next(source), *answer);
+    }
 }
 
 const HELLO: &[Result<(usize, [u8; 3]), Fault>] = &[
@@ -306,10 +250,17 @@ const HELLO: &[Result<(usize, [u8; 3]), Fault>] = &[
 ];
 
 #[test]
-fn a_source_reads_a_file(rt: HostRuntime) -> Result<(), Fail> {
-    let path = file_of(&rt, "rules", "hello")?;
-    let mut source = StdSource::new(Some(File::open(&rt, &path)?));
-    gives(&rt, &mut source, HELLO);
+fn a_text_goes_through_a_file(rt: HostRuntime) -> Result<(), Fail> {
+    let path = place(&rt, "text")?;
+    let written = write_all(&mut StdSink::new(File::create(&rt, &path)?), b"hello");
+    assert_eq!(rt; written, Ok(()));
+    let refused = write_all(&mut StdSink::new(File::open(&rt, &path)?), b"hello");
+    assert_eq!(rt; refused, Err(Fault));
+    gives(
+        &rt,
+        &mut StdSource::new(Some(File::open(&rt, &path)?)),
+        HELLO,
+    );
     Ok(fs::remove_file(&rt, &path)?)
 }
 
@@ -365,13 +316,6 @@ const READS_OF_DEVICE: &[Result<(usize, [u8; 3]), Fault>] = &[
     Err(Fault),
 ];
 
-#[test]
-fn a_read_that_was_interrupted_is_made_again(rt: HostRuntime) -> Result<(), Fail> {
-    let mut source = StdSource::new(Some(device(rt.alloc())?));
-    gives(&rt, &mut source, READS_OF_DEVICE);
-    Ok(())
-}
-
 const WRITES_TO_DEVICE: &[(&[u8], Result<usize, Fault>)] = &[
     (b"abc", Ok(2)),
     (b"c", Err(Fault)),
@@ -380,21 +324,12 @@ const WRITES_TO_DEVICE: &[(&[u8], Result<usize, Fault>)] = &[
 ];
 
 #[test]
-fn a_write_that_was_interrupted_is_made_again(rt: HostRuntime) -> Result<(), Fail> {
+fn a_device_that_was_interrupted_is_called_again(rt: HostRuntime) -> Result<(), Fail> {
+    let mut source = StdSource::new(Some(device(rt.alloc())?));
+    gives(&rt, &mut source, READS_OF_DEVICE);
     let mut sink = StdSink::new(device(rt.alloc())?);
-    takes(&rt, &mut sink, WRITES_TO_DEVICE);
-    Ok(())
-}
-
-fn written_to(file: File) -> Result<(), Fault> {
-    write_all(&mut StdSink::new(file), b"hello")
-}
-
-#[test]
-fn a_sink_writes_a_file(rt: HostRuntime) -> Result<(), Fail> {
-    let path = place(&rt, "report")?;
-    assert_eq!(rt; written_to(File::create(&rt, &path)?), Ok(()));
-    assert_eq!(rt; written_to(File::open(&rt, &path)?), Err(Fault));
-    assert!(rt; taken(&rt, &path)?.as_str() == "hello");
+    for (bytes, answer) in WRITES_TO_DEVICE {
+        assert_eq!(rt; sink.write(bytes), *answer);
+    }
     Ok(())
 }
