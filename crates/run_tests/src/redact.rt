@@ -1,8 +1,8 @@
 //! The commands `redact`, `resume` and `report` on the small image, one after the other.
-use crate::plan::{RULE, answers, words_of};
-use crate::small_image::{FILE, put, put_inode, small_image};
-use redact_cmd::{JournalRefusal, PlanRefusal, Status, run};
-use rx_store::{MemSink, MemSource, MemStore};
+use crate::plan::{RULE, answers, ran, store_of};
+use crate::small_image::{Edit, FILE, edited};
+use redact_cmd::{JournalRefusal, PlanRefusal, Status};
+use rx_store::MemStore;
 use std::alloc::{AllocError, Global};
 use std::process::Abort;
 use std::test::Fail;
@@ -22,142 +22,139 @@ const FILLED: [u8; 75] = [
     0x01, 0x01, 0x00, 0x00, 0x00, 0x02, 0x00, 0x2F, 0x61, 0x44, 0x44,
 ];
 
-/// A store with this image and this journal, and room for a session.
-fn store_of(alloc: Global, image: Vec<u8>, journal: &[u8]) -> Result<MemStore, AllocError> {
-    let journal = Vec::from_slice(alloc, journal)?;
-    let room = journal.len().max(4096) as u64;
-    MemStore::new(alloc, image, journal, room, 100, 10_000)
+const REDACT: &[&str] = &["redact", "IMAGE", "JOURNAL", "RULES"];
+
+const RESUME: &[&str] = &["resume", "IMAGE", "JOURNAL"];
+
+const REPORT: &[&str] = &["report", "JOURNAL"];
+
+/// Words, and the status and the text that they answer.
+type Step = (&'static [&'static str], Status, &'static [u8]);
+
+/// The changes of the small image, and the journal: so many bytes of the one whose marks are set, and these behind them.
+type Disk = (&'static [Edit<'static>], usize, &'static [u8]);
+
+/// The three bytes of the file are filled.
+const FILLING: &[Edit<'static>] = &[Edit::Bytes(86_016, b"XXX")];
+
+const OTHER_CONTENT: &[Edit<'static>] = &[Edit::Bytes(86_016, b"xyz")];
+
+/// The file's block is that of the root's entries.
+const GUARDED: &[Edit<'static>] = &[Edit::Inode(FILE, 0x81A4, 3, 20)];
+
+const SHORTER: &[Edit<'static>] = &[Edit::End(262_143)];
+
+const NOT_OPEN: Status = Status::JournalRefused(JournalRefusal::NotOpen);
+
+const BAD: Status = Status::JournalRefused(JournalRefusal::Bad(24));
+
+/// A disk, what is done, and the disk behind it.
+const RUNS: &[(Disk, &[Step], Disk)] = &[
+    (
+        (&[], 0, b""),
+        &[
+            (REDACT, Status::Done, DONE),
+            (REDACT, Status::JournalOpen, b""),
+            (RESUME, Status::Done, DONE),
+            (REPORT, Status::Done, DONE),
+        ],
+        (FILLING, 75, b""),
+    ),
+    // another content ends alike
+    (
+        (OTHER_CONTENT, 0, b""),
+        &[(REDACT, Status::Done, DONE)],
+        (FILLING, 75, b""),
+    ),
+    // what was pending is resumed
+    (
+        (&[], 73, b"\x00\x00"),
+        &[
+            (REPORT, Status::Done, PENDING),
+            (RESUME, Status::Done, DONE),
+        ],
+        (FILLING, 75, b""),
+    ),
+    // journals that hold no plan
+    (
+        (&[], 40, b""),
+        &[(RESUME, NOT_OPEN, b""), (REPORT, NOT_OPEN, b"")],
+        (&[], 40, b""),
+    ),
+    (
+        (&[], 74, b""),
+        &[(RESUME, BAD, b""), (REPORT, BAD, b"")],
+        (&[], 74, b""),
+    ),
+    // an image of another length
+    (
+        (SHORTER, 75, b""),
+        &[(
+            RESUME,
+            Status::JournalRefused(JournalRefusal::OtherLength(262_144, 262_143)),
+            b"",
+        )],
+        (SHORTER, 75, b""),
+    ),
+    // a plan that meets the guard
+    (
+        (GUARDED, 0, b"old"),
+        &[(
+            REDACT,
+            Status::PlanRefused(PlanRefusal::MeetsGuard(81_920, 1)),
+            b"",
+        )],
+        (GUARDED, 0, b"old"),
+    ),
+];
+
+fn journal_of(alloc: Global, disk: &Disk) -> Result<Vec<u8>, AllocError> {
+    let mut journal = Vec::from_slice(alloc, &FILLED)?;
+    journal.truncate(disk.1);
+    journal.extend_from_slice(disk.2)?;
+    Ok(journal)
 }
 
-/// Runs words over a store, and gives the status and what was written.
-fn ran(
-    alloc: Global,
-    words: &[&str],
-    store: &mut MemStore,
-) -> Result<(Status, Vec<u8>), AllocError> {
-    let words = words_of(alloc, words)?;
-    let mut source = MemSource::new(Vec::from_slice(alloc, RULE)?, None);
-    let mut sink = MemSink::new(alloc, 4096)?;
-    let status = run(alloc, &words, store, &mut source, &mut sink);
-    Ok((status, Vec::from_slice(alloc, sink.bytes())?))
+/// A store that holds this disk.
+fn store_with(alloc: Global, disk: &Disk) -> Result<MemStore, AllocError> {
+    store_of(
+        alloc,
+        edited(alloc, disk.0)?,
+        journal_of(alloc, disk)?.as_slice(),
+    )
 }
 
-const REDACT: [&str; 4] = ["redact", "IMAGE", "JOURNAL", "RULES"];
+/// Compares what a store holds with the disk that is wanted.
+fn holds(rt: &impl Abort, alloc: Global, store: &MemStore, disk: &Disk) -> Result<(), AllocError> {
+    assert!(*rt; store.image() == edited(alloc, disk.0)?.as_slice());
+    assert_eq!(*rt; store.journal(), journal_of(alloc, disk)?.as_slice());
+    Ok(())
+}
 
-const RESUME: [&str; 3] = ["resume", "IMAGE", "JOURNAL"];
-
-const REPORT: [&str; 2] = ["report", "JOURNAL"];
-
-/// The small image with the three bytes of its file filled.
-fn filled_image(alloc: Global) -> Result<Vec<u8>, AllocError> {
-    let mut image = small_image(alloc)?;
-    for byte in image.iter_mut().skip(86_016).take(3) {
-        *byte = 0x58;
+#[test]
+fn disks_are_redacted_and_resumed(rt: HostRuntime) -> Result<(), Fail> {
+    let alloc = rt.alloc();
+    for (before, steps, behind) in RUNS {
+        let mut store = store_with(alloc, before)?;
+        for (words, status, text) in *steps {
+            answers(&rt, ran(alloc, words, &mut store, RULE)?, *status, text);
+        }
+        holds(&rt, alloc, &store, behind)?;
     }
-    Ok(image)
-}
-
-/// Compares what a store holds with what is wanted.
-fn holds(rt: &impl Abort, store: &MemStore, image: &[u8], journal: &[u8]) {
-    assert!(*rt; store.image() == image);
-    assert_eq!(*rt; store.journal(), journal);
-}
-
-#[test]
-fn the_small_image_is_redacted(rt: HostRuntime) -> Result<(), Fail> {
-    let alloc = rt.alloc();
-    let filled = filled_image(alloc)?;
-    let mut store = store_of(alloc, small_image(alloc)?, &[])?;
-    answers(&rt, ran(alloc, &REDACT, &mut store)?, Status::Done, DONE);
-    holds(&rt, &store, &filled, &FILLED);
-    answers(
-        &rt,
-        ran(alloc, &REDACT, &mut store)?,
-        Status::JournalOpen,
-        b"",
-    );
-    answers(&rt, ran(alloc, &RESUME, &mut store)?, Status::Done, DONE);
-    answers(&rt, ran(alloc, &REPORT, &mut store)?, Status::Done, DONE);
-    holds(&rt, &store, &filled, &FILLED);
-    Ok(())
-}
-
-#[test]
-fn another_content_ends_alike(rt: HostRuntime) -> Result<(), Fail> {
-    let alloc = rt.alloc();
-    let mut image = small_image(alloc)?;
-    put(&mut image, 86_016, b"xyz");
-    let mut store = store_of(alloc, image, &[])?;
-    answers(&rt, ran(alloc, &REDACT, &mut store)?, Status::Done, DONE);
-    holds(&rt, &store, &filled_image(alloc)?, &FILLED);
-    Ok(())
-}
-
-#[test]
-fn what_was_pending_is_resumed(rt: HostRuntime) -> Result<(), Fail> {
-    let alloc = rt.alloc();
-    let mut open = FILLED;
-    open[73] = 0;
-    open[74] = 0;
-    let mut store = store_of(alloc, small_image(alloc)?, &open)?;
-    answers(&rt, ran(alloc, &REPORT, &mut store)?, Status::Done, PENDING);
-    answers(&rt, ran(alloc, &RESUME, &mut store)?, Status::Done, DONE);
-    holds(&rt, &store, &filled_image(alloc)?, &FILLED);
-    Ok(())
-}
-
-#[test]
-fn journals_that_hold_no_plan_are_refused(rt: HostRuntime) -> Result<(), Fail> {
-    let alloc = rt.alloc();
-    for (len, refusal) in [(40, JournalRefusal::NotOpen), (74, JournalRefusal::Bad(24))] {
-        let status = Status::JournalRefused(refusal);
-        let mut store = store_of(alloc, small_image(alloc)?, &FILLED[..len])?;
-        answers(&rt, ran(alloc, &RESUME, &mut store)?, status, b"");
-        answers(&rt, ran(alloc, &REPORT, &mut store)?, status, b"");
-    }
-    Ok(())
-}
-
-#[test]
-fn an_image_of_another_length_is_refused(rt: HostRuntime) -> Result<(), Fail> {
-    let alloc = rt.alloc();
-    let mut longer = small_image(alloc)?;
-    longer.push(0)?;
-    let mut store = store_of(alloc, longer, &FILLED)?;
-    let refusal = JournalRefusal::OtherLength(262_144, 262_145);
-    let found = ran(alloc, &RESUME, &mut store)?;
-    answers(&rt, found, Status::JournalRefused(refusal), b"");
-    Ok(())
-}
-
-#[test]
-fn a_plan_that_meets_the_guard_changes_nothing(rt: HostRuntime) -> Result<(), Fail> {
-    let alloc = rt.alloc();
-    let mut image = small_image(alloc)?;
-    put_inode(&mut image, FILE, 0x81A4, 3, 20);
-    let before = Vec::from_slice(alloc, &image)?;
-    let mut store = store_of(alloc, image, b"old")?;
-    let refusal = PlanRefusal::MeetsGuard(81_920, 1);
-    let found = ran(alloc, &REDACT, &mut store)?;
-    answers(&rt, found, Status::PlanRefused(refusal), b"");
-    holds(&rt, &store, &before, b"old");
     Ok(())
 }
 
 #[test]
 fn a_session_that_fails_leaves_what_it_made(rt: HostRuntime) -> Result<(), Fail> {
     let alloc = rt.alloc();
-    let mut store = store_of(alloc, small_image(alloc)?, &[])?;
+    let mut store = store_with(alloc, &(&[], 0, b""))?;
     store.fail_at((21..90).collect(alloc)?);
-    answers(
-        &rt,
-        ran(alloc, &REDACT, &mut store)?,
-        Status::DeviceFault,
-        b"",
-    );
-    assert!(rt; store.image() == small_image(alloc)?.as_slice());
+    let stopped = ran(alloc, REDACT, &mut store, RULE)?;
+    answers(&rt, stopped, Status::DeviceFault, b"");
+    assert!(rt; store.image() == edited(alloc, &[])?.as_slice());
     store.fail_at(Vec::new(alloc));
-    answers(&rt, ran(alloc, &RESUME, &mut store)?, Status::Done, DONE);
-    assert!(rt; store.image() == filled_image(alloc)?.as_slice());
+    let resumed = ran(alloc, RESUME, &mut store, RULE)?;
+    answers(&rt, resumed, Status::Done, DONE);
+    holds(&rt, alloc, &store, &(FILLING, 75, b""))?;
     Ok(())
 }
