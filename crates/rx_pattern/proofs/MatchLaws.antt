@@ -38,7 +38,7 @@ split_behind item front back text one later begins =
     let split = later begins.1 begins.4 in
     record {
       before = begins.0 ∷ split.before;
-      run = split.run;
+      starred = split.starred;
       behind = split.behind;
       whole = begins.2 ∙ ap (λ rest. begins.0 ∷ rest) split.whole;
       front_matches = one (begins.0 ∷ split.before) (begins.0, split.before, refl, begins.3, split.front_matches);
@@ -49,7 +49,7 @@ split_round : (front back : List Item) (text : List ℕ) → Match (front ++ Sta
 unfolding Match
 split_round [] back text matches = record {
   before = [];
-  run = matches.0;
+  starred = matches.0;
   behind = matches.1;
   whole = matches.2;
   front_matches = refl;
@@ -59,11 +59,11 @@ split_round (Star ∷ front) back text matches =
     let split = split_round front back matches.1 matches.3 in
     record {
       before = matches.0 ++ split.before;
-      run = split.run;
+      starred = split.starred;
       behind = split.behind;
-      whole = matches.2 ∙ ap (λ rest. matches.0 ++ rest) (split.whole ∙ append_assoc split.before split.run split.behind)
-          ∙ sym (append_assoc matches.0 split.before (split.run ++ split.behind))
-          ∙ sym (append_assoc (matches.0 ++ split.before) split.run split.behind);
+      whole = matches.2 ∙ ap (λ rest. matches.0 ++ rest) (split.whole ∙ append_assoc split.before split.starred split.behind)
+          ∙ sym (append_assoc matches.0 split.before (split.starred ++ split.behind))
+          ∙ sym (append_assoc (matches.0 ++ split.before) split.starred split.behind);
       front_matches = (matches.0, split.before, refl, split.front_matches);
       back_matches = split.back_matches;
     }
@@ -72,44 +72,44 @@ split_round (AnyOne ∷ front) back text matches = split_behind AnyOne front bac
 split_round (OneOf class ∷ front) back text matches = split_behind (OneOf class) front back text (λ before begins. begins) (split_round front back) matches
 
 -- one more character in front of a split
-joined_behind : (item : Item) (front back : List Item) (before run behind text : List ℕ) → text ≡ before ++ run ++ behind
-    → ((rest middle : List ℕ) → rest ≡ middle ++ run ++ behind → Match front middle → Match (front ++ Star ∷ back) rest)
+joined_behind : (item : Item) (front back : List Item) (before starred behind text : List ℕ) → text ≡ before ++ starred ++ behind
+    → ((rest middle : List ℕ) → rest ≡ middle ++ starred ++ behind → Match front middle → Match (front ++ Star ∷ back) rest)
     → BeginsWith item (Match front) before → BeginsWith item (Match (front ++ Star ∷ back)) text
-joined_behind item front back before run behind text whole later begins = (
+joined_behind item front back before starred behind text whole later begins = (
   begins.0,
-  begins.1 ++ run ++ behind,
-  whole ∙ ap (λ first. first ++ run ++ behind) begins.2,
+  begins.1 ++ starred ++ behind,
+  whole ∙ ap (λ first. first ++ starred ++ behind) begins.2,
   begins.3,
-  later (begins.1 ++ run ++ behind) begins.1 refl begins.4,
+  later (begins.1 ++ starred ++ behind) begins.1 refl begins.4,
 )
 
-joined_round : (front back : List Item) (before run behind text : List ℕ) → text ≡ before ++ run ++ behind → Match front before → Match back behind
+joined_round : (front back : List Item) (before starred behind text : List ℕ) → text ≡ before ++ starred ++ behind → Match front before → Match back behind
     → Match (front ++ Star ∷ back) text
 unfolding Match
-joined_round [] back before run behind text whole front_matches back_matches =
-    (run, behind, whole ∙ ap (λ first. first ++ run ++ behind) front_matches, back_matches)
-joined_round (Star ∷ front) back before run behind text whole front_matches back_matches =
+joined_round [] back before starred behind text whole front_matches back_matches =
+    (starred, behind, whole ∙ ap (λ first. first ++ starred ++ behind) front_matches, back_matches)
+joined_round (Star ∷ front) back before starred behind text whole front_matches back_matches =
     let first = front_matches.0 in
     let middle = front_matches.1 in (
       first,
-      middle ++ run ++ behind,
-      whole ∙ ap (λ before. before ++ run ++ behind) front_matches.2 ∙ ap (λ both. both ++ behind) (append_assoc first middle run)
-          ∙ append_assoc first (middle ++ run) behind,
-      joined_round front back middle run behind (middle ++ run ++ behind) refl front_matches.3 back_matches,
+      middle ++ starred ++ behind,
+      whole ∙ ap (λ before. before ++ starred ++ behind) front_matches.2 ∙ ap (λ both. both ++ behind) (append_assoc first middle starred)
+          ∙ append_assoc first (middle ++ starred) behind,
+      joined_round front back middle starred behind (middle ++ starred ++ behind) refl front_matches.3 back_matches,
     )
-joined_round (Plain plain ∷ front) back before run behind text whole front_matches back_matches =
-    joined_behind (Plain plain) front back before run behind text whole
-    (λ rest middle is matches. joined_round front back middle run behind rest is matches back_matches) front_matches
-joined_round (AnyOne ∷ front) back before run behind text whole front_matches back_matches =
-    joined_behind AnyOne front back before run behind text whole
-    (λ rest middle is matches. joined_round front back middle run behind rest is matches back_matches) front_matches
-joined_round (OneOf class ∷ front) back before run behind text whole front_matches back_matches =
-    joined_behind (OneOf class) front back before run behind text whole
-    (λ rest middle is matches. joined_round front back middle run behind rest is matches back_matches) front_matches
+joined_round (Plain plain ∷ front) back before starred behind text whole front_matches back_matches =
+    joined_behind (Plain plain) front back before starred behind text whole
+    (λ rest middle is matches. joined_round front back middle starred behind rest is matches back_matches) front_matches
+joined_round (AnyOne ∷ front) back before starred behind text whole front_matches back_matches =
+    joined_behind AnyOne front back before starred behind text whole
+    (λ rest middle is matches. joined_round front back middle starred behind rest is matches back_matches) front_matches
+joined_round (OneOf class ∷ front) back before starred behind text whole front_matches back_matches =
+    joined_behind (OneOf class) front back before starred behind text whole
+    (λ rest middle is matches. joined_round front back middle starred behind rest is matches back_matches) front_matches
 
 -- a match of items with a star between them splits the text
 pub star_splits : (front back : List Item) (text : List ℕ) → Match (front ++ Star ∷ back) text ↔ IsSplit front back text
 star_splits front back text = (
   split_round front back text,
-  λ split. joined_round front back split.before split.run split.behind text split.whole split.front_matches split.back_matches,
+  λ split. joined_round front back split.before split.starred split.behind text split.whole split.front_matches split.back_matches,
 )

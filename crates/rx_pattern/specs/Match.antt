@@ -32,7 +32,7 @@ BeginsWith item Later text = (c : ℕ) × (rest : List ℕ) × (text ≡ c ∷ r
 -- the items match the whole text: none the empty one, a star any beginning of it, and another item its first character
 unfoldable pub Match : List Item → List ℕ → Type 0
 Match [] text = text ≡ []
-Match (Star ∷ items) text = (run : List ℕ) × (rest : List ℕ) × (text ≡ run ++ rest) × Match items rest
+Match (Star ∷ items) text = (starred : List ℕ) × (rest : List ℕ) × (text ≡ starred ++ rest) × Match items rest
 Match (Plain plain ∷ items) text = BeginsWith (Plain plain) (Match items) text
 Match (AnyOne ∷ items) text = BeginsWith AnyOne (Match items) text
 Match (OneOf class ∷ items) text = BeginsWith (OneOf class) (Match items) text
@@ -40,8 +40,8 @@ Match (OneOf class ∷ items) text = BeginsWith (OneOf class) (Match items) text
 -- a text is split round what a star takes: its beginning matches the items in front of the star, and its end those behind it
 pub record IsSplit (front back : List Item) (text : List ℕ) : Type 0 where
   pub before : List ℕ
-  pub run : List ℕ
+  pub starred : List ℕ
   pub behind : List ℕ
-  pub whole : text ≡ before ++ run ++ behind
+  pub whole : text ≡ before ++ starred ++ behind
   pub front_matches : Match front before
   pub back_matches : Match back behind

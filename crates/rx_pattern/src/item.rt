@@ -11,7 +11,7 @@ pub enum Item {
     Plain(char),
     /// Any one character.
     AnyOne,
-    /// Any run of characters, also an empty one.
+    /// Any characters, also none.
     Star,
     /// One character that a class takes.
     OneOf(Class),

@@ -1,6 +1,6 @@
 //! The pattern language of file names: what a pattern's text says, and which texts it matches.
 //!
-//! `*` is any run of characters, `?` one character, `[..]` one of a class and `[!..]` one not of it; a class has characters and
+//! `*` is any characters, also none, `?` one character, `[..]` one of a class and `[!..]` one not of it; a class has characters and
 //! ranges by code point. There are no escapes, and the whole text must match.
 //!
 //!     let pattern = Pattern::read(alloc, "f*3.dat")?;
