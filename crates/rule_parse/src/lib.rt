@@ -16,8 +16,6 @@ ghost use Rattle.rule_parse.specs.Counted.{IsCountedForRules};
 ghost use Rattle.rule_parse.specs.declared.RuleFault.TheVariants.{NoMemory};
 
 mod first_form;
-#[cfg(test)]
-mod tests;
 
 use crate::first_form::{MAX_TEXT, first_line_of, rules_of};
 use rule_defs::Rules;

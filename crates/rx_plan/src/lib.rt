@@ -20,8 +20,6 @@ ghost use Rattle.rx_plan.specs.declared.PlanFault.TheVariants.{NoMemory};
 
 mod listing;
 mod settling;
-#[cfg(test)]
-mod tests;
 
 use crate::listing::listing_of;
 use crate::settling::{Settled, settle_files};

@@ -15,8 +15,6 @@ pub(crate) mod laying;
 mod pieces;
 mod plan;
 mod ranges;
-#[cfg(test)]
-mod tests;
 mod text;
 
 pub use fills::FillMap;

@@ -18,8 +18,6 @@ ghost use Rattle.rx_report.specs.Pages.{TookAllBut};
 
 mod lines;
 mod pages;
-#[cfg(test)]
-mod tests;
 
 use crate::lines::{head_lines, listed_head, range_line};
 use crate::pages::{Page, put};

@@ -40,6 +40,3 @@ pub use whole::{ReadError, read_to_end};
 
 /// Memory ran out.
 pub type NoMemory = std::alloc::AllocError;
-
-#[cfg(test)]
-mod tests;

@@ -1,5 +1,5 @@
 //! Texts of the first form and of others.
-use super::*;
+use rule_parse::read_rules;
 use rx_store::MemSource;
 use std::test::Fail;
 

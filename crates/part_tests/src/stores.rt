@@ -1,7 +1,7 @@
 //! Tests of what no clause says: that memory is enough, and what real files give.
 ghost use Rattle.std.specs.Prelude.{◌≤◌, IfOk};
 
-use super::{
+use rx_store::{
     Area, Fault, FileStore, MemSink, MemSource, MemStore, Opened, ReadError, Sink, Source, StdSink,
     StdSource, Store, read_to_end, write_all,
 };

@@ -1,8 +1,10 @@
-//! Examples with values that are worked out by hand.
+//! Sets of ranges, maps of fills and lists, with values that are worked out by hand.
 ghost use Rattle.std.specs.Prelude.{◌≡◌};
 
-use super::*;
 use range_defs::{Claim, Range};
+use rx_ranges::{
+    FillMap, ListKind, Listed, Listing, NoMemory, Piece, PieceKind, Pieces, RangeList, Text,
+};
 use std::alloc::Global;
 use std::process::Abort;
 use std::test::Fail;

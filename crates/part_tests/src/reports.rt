@@ -1,12 +1,13 @@
 //! The report of a small plan, and of one whose listing has more bytes than a page.
 ghost use Rattle.std.specs.Prelude.{◌≡◌, Some};
 
-use super::*;
-use range_defs::Range;
-use rx_ranges::{FillMap, ListKind, Listing, Text};
-use rx_store::MemSink;
+use range_defs::{Claim, Range};
+use rx_ranges::{FillMap, ListKind, Listed, Listing, Plan, Text};
+use rx_report::write_report;
+use rx_store::{Fault, MemSink, Sink};
 use std::alloc::{AllocError, Global};
 use std::test::Fail;
+use text_defs::ReportState;
 
 fn claim(at: u64, len: u64, rule: u32, fill: u8) -> Claim
     ensures { result ≡ record { range = record { at = at; len = len }; rule = rule; fill = fill } }

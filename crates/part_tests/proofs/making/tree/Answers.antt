@@ -5,7 +5,7 @@ use Rattle.rx_tree.specs.declared.volume.Volume.{Volume}
 use Rattle.rx_tree.specs.NameLimits.{has_few_names}
 use Rattle.rx_tree.specs.Order.{has_number}
 use Rattle.rx_tree.specs.Within.{ArePartsWithin}
-use Rattle.rx_plan.proofs.tests.tree.Goals as goal
+use Rattle.part_tests.proofs.making.tree.Goals as goal
 
 -- what holds of one item holds of all where there is no other
 all-one : {X : Type 0} (P : X → Type 0) (items : List X) (item : X) → items ≡ item ∷ [] → P item → All P items

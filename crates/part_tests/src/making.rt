@@ -3,13 +3,16 @@ ghost use Rattle.std.specs.Prelude.{◌≡◌, ◌+◌, ◌≤◌, [], ◌∷◌
 ghost use Rattle.rx_ranges.specs.Path.{IsPath};
 ghost use Rattle.rx_tree.specs.Within.{AreRangesWithin, ArePartsWithin};
 
-use super::*;
-use rule_defs::{Action, Condition, Rule};
-use rx_ranges::{ListKind, NoMemory, Piece, PieceKind, Pieces, Text};
+use range_defs::{Claim, Range};
+use rule_defs::{Action, Condition, Rule, Rules};
+use rx_plan::{PlanFault, make_plan};
+use rx_ranges::{ListKind, NoMemory, Piece, PieceKind, Pieces, Plan, RangeList, Text};
 use rx_store::MemStore;
 use rx_tree::{
-    FileEntry, FileId, Files, FsKind, Kind, NO_TIMES, Names, Part, Parts, Role, Volume, Volumes,
+    FileEntry, FileId, Files, FsKind, Kind, NO_TIMES, Names, Part, Parts, Role, Tree, Volume,
+    Volumes,
 };
+use std::alloc::Global;
 use std::test::Fail;
 
 /// The length of the image.

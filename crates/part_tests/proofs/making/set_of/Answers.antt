@@ -3,7 +3,7 @@ use Rattle.range_defs.specs.declared.Range.{Range}
 use Rattle.range_defs.specs.Places.{covers, IsRangeList}
 use Rattle.range_defs.proofs.RangeLaws.{ends_where_covered, covers-past}
 use Rattle.rx_tree.specs.Within.{AreRangesWithin}
-use Rattle.rx_plan.proofs.tests.set_of.Goals as goal
+use Rattle.part_tests.proofs.making.set_of.Goals as goal
 
 -- a set of ranges ends where they end
 set-within : {E : Type 0} (result : Result (List Range) E) (ranges : List Range) (end : ℕ) → AreRangesWithin end ranges

@@ -1,0 +1,25 @@
+//! Tests of the parts of the commands: the stores, the sets of ranges, the making of plans, the report, the rule text, the words of
+//! a command and the lines of its statuses.
+//!
+//! They are of public calls, on what no clause says: that a call succeeds where memory is ample, what a real file gives, and what is
+//! printed. They stand in a crate of their own since a crate that has tests is proved once more with them, and the proofs of these
+//! take long.
+//!
+//!     // a store in memory whose third call fails, and a table of calls with what each answers
+//!     store.fail_at(vec![in alloc; 3]?);
+#![tactic(auto)]
+
+#[cfg(test)]
+mod making;
+#[cfg(test)]
+mod ranges;
+#[cfg(test)]
+mod reports;
+#[cfg(test)]
+mod rules;
+#[cfg(test)]
+mod statuses;
+#[cfg(test)]
+mod stores;
+#[cfg(test)]
+mod words;
