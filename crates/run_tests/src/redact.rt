@@ -35,7 +35,7 @@ type Step = (&'static [&'static str], Status, &'static [u8]);
 type Disk = (&'static [Edit<'static>], usize, &'static [u8]);
 
 /// The three bytes of the file are filled.
-const FILLING: &[Edit<'static>] = &[Edit::Bytes(86_016, b"XXX")];
+const FILLING: &[Edit<'static>] = &[Edit::Bytes(86_016, &[0x58, 0x58, 0x58])];
 
 const OTHER_CONTENT: &[Edit<'static>] = &[Edit::Bytes(86_016, b"xyz")];
 
