@@ -1,11 +1,10 @@
 -- Calls on what std reads and writes: what one came to, and what is counted with it.
-use Rattle.std.specs.Prelude.{◌≡◌, ℕ, ◌+◌, ◌≤◌, Bool, cond, ◌&&◌, nat_eq, nat_lt, Option, None, Some, Result, Ok, Err}
+use Rattle.std.specs.Prelude.{◌≡◌, ℕ, ◌+◌, ◌<◌, ◌≤◌, Bool, cond, ◌&&◌, nat_eq, nat_lt, Option, None, Some, Result, Ok, Err}
 use Rattle.std.specs.IoError.{error_kind}
 use Rattle.std.specs.declared.io.Error.{Error}
 use Rattle.std.specs.declared.io.ErrorKind.{ErrorKind}
 use Rattle.std.specs.declared.io.ErrorKind.TheVariants.{Interrupted}
 use Rattle.disk_defs.specs.Count.{one_more}
-use Rattle.disk_defs.specs.declared.Fault.{Fault}
 use Rattle.rx_store.specs.declared.outside.Outcome.{Outcome}
 use Rattle.rx_store.specs.declared.outside.Outcome.TheVariants.{Bytes, Again, Failed}
 
@@ -57,8 +56,12 @@ IfBytes (Bytes count) Holds = Holds count
 IfBytes Again Holds = Unit {0}
 IfBytes Failed Holds = Unit {0}
 
--- The end of a loop that makes an interrupted call again: no call failed before the last one, which succeeded where the loop answers a
--- success, and where it answers a fault failed and wasn't interrupted, unless no call was to be made again any more.
-abbrev pub EndsWith : {D T : Type 0} → (D → Result ℕ Error → D → Type 0) → Bool → Calls D → Calls D → Result T Fault → Type 0
-EndsWith {D} Answered due before now (Ok value) = (last : Calls D) × (count : ℕ) × (last.faults ≡ before.faults) × Came Answered due last now (Bytes count) × IsNoted (Bytes count) last now
-EndsWith {D} Answered due before now (Err fault) = (last : Calls D) × (last.faults ≡ before.faults) × Came Answered due last now Failed × IsNoted Failed last now
+-- Calls of a loop, one after the other, that moved so many bytes in all: each was interrupted, which moves none, or moved some.
+pub data Moved {D : Type 0} (Answered : D → Result ℕ Error → D → Type 0) (due : Bool) (first : Calls D) : ℕ → Calls D → Type 0 where
+  NoCall : Moved Answered due first 0 first
+  Interruption : (count : ℕ) (before now : Calls D) → Moved Answered due first count before → Came Answered due before now Again → IsNoted Again before now → Moved Answered due first count now
+  More : (count more : ℕ) (before now : Calls D) → Moved Answered due first count before → 0 < more → Came Answered due before now (Bytes more) → IsNoted (Bytes more) before now → Moved Answered due first (count + more) now
+
+-- Such calls, and behind them a last one that came to this. Where they moved none, each of them was interrupted.
+abbrev pub EndsIn : {D : Type 0} → (D → Result ℕ Error → D → Type 0) → Bool → Calls D → Calls D → ℕ → Outcome → Type 0
+EndsIn {D} Answered due first now count outcome = (last : Calls D) × Moved Answered due first count last × Came Answered due last now outcome × IsNoted outcome last now

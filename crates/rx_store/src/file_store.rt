@@ -1,10 +1,11 @@
 //! The store over real files.
-ghost use Rattle.std.specs.Prelude.{◌≡◌, ◌<◌, ◌≤◌, ◌+◌, ◌^◌, max, length, IfOk, OnOk, OnErr, IsOk, IsErr, IsTrue, is_none, false, true};
+ghost use Rattle.std.specs.Prelude.{◌≡◌, ◌<◌, ◌≤◌, ◌+◌, ◌^◌, ℕ, max, length, IfOk, OnOk, OnErr, IsOk, IsErr, IsTrue, is_none, false, true};
 ghost use Rattle.disk_defs.specs.Disk.{size_of, state_after, IsAfterFailed, MayWrite, ReadsFrom};
 ghost use Rattle.disk_defs.specs.Story.{Write, Cut, Sync};
 ghost use Rattle.disk_defs.specs.declared.Area.{Area as AreaValue};
 ghost use Rattle.disk_defs.specs.Count.{IsCounted, IsCountedIn, IsCountedInBoth, no_faults};
-ghost use Rattle.rx_store.specs.Outside.{EndsWith};
+ghost use Rattle.rx_store.specs.Outside.{EndsIn, Moved};
+ghost use Rattle.rx_store.specs.declared.outside.Outcome.TheVariants.{Bytes, Failed};
 ghost use Rattle.rx_store.specs.Files.{IsMeasured, area_file, file_of};
 
 use crate::outside::{Outcome, Outside, ReadsFrom, WritesTo};
@@ -38,7 +39,8 @@ fn read_whole<F: ReadsFrom>(file: &mut Outside<F>, at: u64, buf: &mut [u8]) -> R
     requires { at + length buf.old < 2 ^ 64 }
     ensures same { is_none file.new.device ≡ is_none file.old.device }
     ensures counted { IsCounted result file.old.faults file.new.faults }
-    ensures again { 0 < length buf.new → EndsWith F.answered true file.old file.new result }
+    ensures moved { OnOk result (Moved F.answered true file.old (length buf.new) file.new) }
+    ensures failed { OnErr result ((count : ℕ) × EndsIn F.answered true file.old file.new count Failed) }
 {
     let mut done = 0;
     while done < buf.len() {
@@ -62,7 +64,8 @@ fn write_whole<F: WritesTo>(
     ensures whole { OnOk result.1 (result.0 ≡ length bytes.now) }
     ensures same { is_none file.new.device ≡ is_none file.old.device }
     ensures counted { IsCounted result.1 file.old.faults file.new.faults }
-    ensures again { 0 < length bytes.now → EndsWith F.written true file.old file.new result.1 }
+    ensures moved { OnOk result.1 (Moved F.written true file.old result.0 file.new) }
+    ensures failed { OnErr result.1 (EndsIn F.written true file.old file.new result.0 Failed) }
 {
     let mut done = 0;
     while done < bytes.len() {
@@ -79,7 +82,8 @@ fn write_whole<F: WritesTo>(
 fn cut_to<F: WritesTo>(file: &mut Outside<F>, len: u64) -> Result<(), Fault>
     ensures same { is_none file.new.device ≡ is_none file.old.device }
     ensures counted { IsCounted result file.old.faults file.new.faults }
-    ensures again { EndsWith F.cut false file.old file.new result }
+    ensures answered { OnOk result ((count : ℕ) × EndsIn F.cut false file.old file.new 0 (Bytes count)) }
+    ensures failed { OnErr result (EndsIn F.cut false file.old file.new 0 Failed) }
 {
     'again: loop {
         match file.cut(len) {
@@ -94,7 +98,8 @@ fn cut_to<F: WritesTo>(file: &mut Outside<F>, len: u64) -> Result<(), Fault>
 fn sync_whole<F: WritesTo>(file: &mut Outside<F>) -> Result<(), Fault>
     ensures same { is_none file.new.device ≡ is_none file.old.device }
     ensures counted { IsCounted result file.old.faults file.new.faults }
-    ensures again { EndsWith F.synced false file.old file.new result }
+    ensures answered { OnOk result ((count : ℕ) × EndsIn F.synced false file.old file.new 0 (Bytes count)) }
+    ensures failed { OnErr result (EndsIn F.synced false file.old file.new 0 Failed) }
 {
     'again: loop {
         match file.sync() {

@@ -1,7 +1,8 @@
 //! A sink over a writer of std.
-ghost use Rattle.std.specs.Prelude.{◌≡◌, ◌<◌, ◌≤◌, length, IfOk, nat_lt};
+ghost use Rattle.std.specs.Prelude.{◌≡◌, ◌<◌, ◌≤◌, length, IfOk, OnErr, nat_lt};
 ghost use Rattle.disk_defs.specs.Count.{IsCounted};
-ghost use Rattle.rx_store.specs.Outside.{EndsWith};
+ghost use Rattle.rx_store.specs.Outside.{EndsIn};
+ghost use Rattle.rx_store.specs.declared.outside.Outcome.TheVariants.{Bytes, Failed};
 
 use crate::outside::{Outcome, Outside, Writes};
 use crate::sink::Sink;
@@ -42,7 +43,8 @@ fn write_answered<W: Writes>(writer: &mut Outside<W>, bytes: &[u8]) -> Result<us
     ensures within { IfOk result (λ count. count ≤ length bytes.now) }
     ensures progress { IfOk result (λ count. 0 < length bytes.now → 0 < count) }
     ensures counted { IsCounted result writer.old.faults writer.new.faults }
-    ensures again { EndsWith W.answered (nat_lt 0 (length bytes.now)) writer.old writer.new result }
+    ensures answered { IfOk result (λ count. EndsIn W.answered (nat_lt 0 (length bytes.now)) writer.old writer.new 0 (Bytes count)) }
+    ensures failed { OnErr result (EndsIn W.answered (nat_lt 0 (length bytes.now)) writer.old writer.new 0 Failed) }
 {
     'again: loop {
         match writer.write(bytes) {

@@ -1,7 +1,8 @@
 //! A source over a reader of std.
-ghost use Rattle.std.specs.Prelude.{◌≡◌, ◌≤◌, length, IfOk, IsErr, IsTrue, is_none, false};
+ghost use Rattle.std.specs.Prelude.{◌≡◌, ◌≤◌, length, IfOk, OnErr, IsErr, IsTrue, is_none, false};
 ghost use Rattle.disk_defs.specs.Count.{IsCounted};
-ghost use Rattle.rx_store.specs.Outside.{EndsWith};
+ghost use Rattle.rx_store.specs.Outside.{EndsIn};
+ghost use Rattle.rx_store.specs.declared.outside.Outcome.TheVariants.{Bytes, Failed};
 
 use crate::outside::{Outcome, Outside, Reads};
 use crate::source::Source;
@@ -42,7 +43,8 @@ fn read_answered<R: Reads>(reader: &mut Outside<R>, buf: &mut [u8]) -> Result<us
     ensures missing { IsTrue (is_none reader.old.device) → IsErr result }
     ensures same { is_none reader.new.device ≡ is_none reader.old.device }
     ensures counted { IsCounted result reader.old.faults reader.new.faults }
-    ensures again { EndsWith R.answered false reader.old reader.new result }
+    ensures answered { IfOk result (λ count. EndsIn R.answered false reader.old reader.new 0 (Bytes count)) }
+    ensures failed { OnErr result (EndsIn R.answered false reader.old reader.new 0 Failed) }
 {
     'again: loop {
         match reader.read(buf) {
