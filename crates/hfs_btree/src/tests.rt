@@ -4,7 +4,6 @@ ghost use Rattle.std.specs.Prelude.{◌≡◌, IfOk};
 ghost use Rattle.disk_defs.specs.Disk.{size_of};
 ghost use Rattle.disk_defs.specs.declared.Area.TheVariants.{Image};
 ghost use Rattle.piece_defs.specs.Places.{AreWithin};
-ghost use Rattle.disk_defs.specs.Memory.{held_in_memory};
 
 use crate::leaves::Leaves;
 use rx_ranges::{Piece, PieceKind, Pieces};
@@ -58,19 +57,6 @@ fn image() -> [u8; 4096] {
     image
 }
 
-fn store_of(alloc: Global, bytes: &[u8]) -> Result<MemStore, AllocError>
-    ensures { IfOk result (λ store. (held_in_memory store).image ≡ bytes.now) }
-{
-    MemStore::new(
-        alloc,
-        Vec::from_slice(alloc, bytes)?,
-        Vec::new(alloc),
-        0,
-        0,
-        0,
-    )
-}
-
 /// The pieces of the file.
 fn pieces(alloc: Global) -> Result<Pieces, AllocError>
     ensures { IfOk result (λ pieces. pieces ≡ PIECES) }
@@ -95,7 +81,7 @@ fn next<S: Store>(
 
 #[test]
 fn records_are_those_of_the_chain(rt: HostRuntime) -> Result<(), Fail> {
-    let mut store = store_of(rt.alloc(), &image())?;
+    let mut store = MemStore::of_image(rt.alloc(), &image())?;
     let mut leaves = Leaves::start(rt.alloc(), &mut store, pieces(rt.alloc())?, 2048, 9).expect(
         &rt, "a tree",
     );
@@ -111,7 +97,7 @@ fn records_are_those_of_the_chain(rt: HostRuntime) -> Result<(), Fail> {
 fn a_chain_that_comes_back_ends(rt: HostRuntime) -> Result<(), Fail> {
     let mut image = image();
     image[1099] = 3;
-    let mut store = store_of(rt.alloc(), &image)?;
+    let mut store = MemStore::of_image(rt.alloc(), &image)?;
     let mut leaves = Leaves::start(rt.alloc(), &mut store, pieces(rt.alloc())?, 2048, 9).expect(
         &rt, "a tree",
     );
@@ -134,7 +120,7 @@ fn a_chain_that_comes_back_ends(rt: HostRuntime) -> Result<(), Fail> {
 fn a_chain_that_leaves_the_file_ends(rt: HostRuntime) -> Result<(), Fail> {
     let mut image = image();
     image[2515] = 4;
-    let mut store = store_of(rt.alloc(), &image)?;
+    let mut store = MemStore::of_image(rt.alloc(), &image)?;
     let mut leaves = Leaves::start(rt.alloc(), &mut store, pieces(rt.alloc())?, 2048, 9).expect(
         &rt, "a tree",
     );
@@ -149,7 +135,7 @@ fn a_chain_that_leaves_the_file_ends(rt: HostRuntime) -> Result<(), Fail> {
 
 #[test]
 fn a_device_that_fails_loses_no_record(rt: HostRuntime) -> Result<(), Fail> {
-    let mut store = store_of(rt.alloc(), &image())?;
+    let mut store = MemStore::of_image(rt.alloc(), &image())?;
     store.fail_at(vec![in rt.alloc(); 1]?);
     let failed = Leaves::start(rt.alloc(), &mut store, pieces(rt.alloc())?, 2048, 9);
     assert_eq!(rt; failed.err(), Some(ReadFault::Device));

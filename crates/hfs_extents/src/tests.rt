@@ -1,7 +1,6 @@
 //! Tests of what no clause says: the calls succeed where memory suffices, on a volume whose extents file was written by hand.
-ghost use Rattle.std.specs.Prelude.{◌≡◌, ◌+◌, ◌≤◌, length, IfOk};
+ghost use Rattle.std.specs.Prelude.{◌≡◌, ◌+◌, ◌≤◌, length};
 ghost use Rattle.hfs_defs.specs.Header.{IsSoundHeader};
-ghost use Rattle.disk_defs.specs.Memory.{held_in_memory};
 
 use crate::fork::ForkPieces;
 use crate::overflow::{Overflow, fork_pieces};
@@ -9,7 +8,7 @@ use hfs_defs::{Extent, Fork, Header};
 use range_defs::Range;
 use rx_ranges::{Piece, PieceKind};
 use rx_store::{MemStore, ReadFault, Sort, What};
-use std::alloc::{AllocError, Global};
+use std::alloc::Global;
 use std::test::Fail;
 
 const NONE: Extent = Extent { start: 0, count: 0 };
@@ -154,25 +153,12 @@ fn image() -> [u8; 4096] {
     image
 }
 
-fn store_of(alloc: Global, bytes: &[u8]) -> Result<MemStore, AllocError>
-    ensures { IfOk result (λ store. (held_in_memory store).image ≡ bytes.now) }
-{
-    MemStore::new(
-        alloc,
-        Vec::from_slice(alloc, bytes)?,
-        Vec::new(alloc),
-        0,
-        0,
-        0,
-    )
-}
-
 /// What is read of the overflow records of a volume of 4,096 bytes.
 fn read(alloc: Global, image: &[u8; 4096], header: &Header) -> Result<Overflow, ReadFault>
     requires sound { IsSoundHeader header.now }
     requires small { header.now.at + header.now.len ≤ 4096 }
 {
-    let mut store = store_of(alloc, image)?;
+    let mut store = MemStore::of_image(alloc, image)?;
     Overflow::read(alloc, &mut store, header)
 }
 
@@ -312,7 +298,7 @@ fn a_record_of_another_form_is_damage(rt: HostRuntime) -> Result<(), Fail> {
 fn a_device_that_fails_is_counted(rt: HostRuntime) -> Result<(), Fail> {
     let small = header(512, 8, 4096);
     assert_eq!(rt; small.wrong_field(), None);
-    let mut store = store_of(rt.alloc(), &image())?;
+    let mut store = MemStore::of_image(rt.alloc(), &image())?;
     store.fail_at(vec![in rt.alloc(); 1, 3]?);
     let first = Overflow::read(rt.alloc(), &mut store, &small);
     assert_eq!(rt; first.err(), Some(ReadFault::Device));

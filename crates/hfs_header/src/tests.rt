@@ -1,11 +1,8 @@
 //! Tests of what no clause says: a header whose fields were written by hand, and a device that fails at each call.
-ghost use Rattle.std.specs.Prelude.{◌≡◌, IfOk};
-ghost use Rattle.disk_defs.specs.Memory.{held_in_memory};
 
 use super::read_header;
 use hfs_defs::Extent;
-use rx_store::{MemStore, ReadFault, Sort, Store};
-use std::alloc::{AllocError, Global};
+use rx_store::{MemStore, ReadFault, Sort};
 use std::test::Fail;
 
 /// A volume of eight blocks of 512 bytes, whose catalog has 1,000 bytes in blocks 3 and 4.
@@ -24,22 +21,9 @@ fn volume() -> [u8; 4096] {
     bytes
 }
 
-fn store_of(alloc: Global, bytes: &[u8]) -> Result<MemStore, AllocError>
-    ensures { IfOk result (λ store. (held_in_memory store).image ≡ bytes.now) }
-{
-    MemStore::new(
-        alloc,
-        Vec::from_slice(alloc, bytes)?,
-        Vec::new(alloc),
-        0,
-        0,
-        0,
-    )
-}
-
 #[test]
 fn the_fields_are_those_of_the_header(rt: HostRuntime) -> Result<(), Fail> {
-    let mut store = store_of(rt.alloc(), &volume())?;
+    let mut store = MemStore::of_image(rt.alloc(), &volume())?;
     let header = read_header(&mut store, 0, 4096);
     assert_eq!(rt;
         header.map(|header| (header.signature, header.version)),
@@ -61,7 +45,7 @@ fn the_fields_are_those_of_the_header(rt: HostRuntime) -> Result<(), Fail> {
 fn a_block_more_passes_the_volume(rt: HostRuntime) -> Result<(), Fail> {
     let mut bytes = volume();
     bytes[1071] = 9;
-    let mut store = store_of(rt.alloc(), &bytes)?;
+    let mut store = MemStore::of_image(rt.alloc(), &bytes)?;
     assert_eq!(rt;
         read_header(&mut store, 0, 4096).err(),
         Some(ReadFault::Damaged(Sort::HeaderField, 1068))
@@ -80,7 +64,7 @@ fn a_block_more_passes_the_volume(rt: HostRuntime) -> Result<(), Fail> {
 #[test]
 fn a_device_that_fails_is_told(rt: HostRuntime) -> Result<(), Fail> {
     for call in 1..3 {
-        let mut store = store_of(rt.alloc(), &volume())?;
+        let mut store = MemStore::of_image(rt.alloc(), &volume())?;
         store.fail_at(vec![in rt.alloc(); call]?);
         assert_eq!(rt;
             read_header(&mut store, 0, 4096).err(),

@@ -1,29 +1,13 @@
 //! Reads of a store in memory.
-ghost use Rattle.std.specs.Prelude.{◌≡◌, IfOk};
-ghost use Rattle.disk_defs.specs.Memory.{held_in_memory};
 
 use super::{bytes_at, look_at};
 use range_defs::Range;
 use rx_store::{MemStore, ReadFault};
-use std::alloc::{AllocError, Global};
 use std::test::Fail;
-
-fn store_of(alloc: Global, bytes: &[u8]) -> Result<MemStore, AllocError>
-    ensures { IfOk result (λ store. (held_in_memory store).image ≡ bytes.now) }
-{
-    MemStore::new(
-        alloc,
-        Vec::from_slice(alloc, bytes)?,
-        Vec::new(alloc),
-        0,
-        0,
-        0,
-    )
-}
 
 #[test]
 fn reads_are_kept_and_joined(rt: HostRuntime) -> Result<(), Fail> {
-    let mut store = store_of(rt.alloc(), &[1, 2, 3, 4])?;
+    let mut store = MemStore::of_image(rt.alloc(), &[1, 2, 3, 4])?;
     let mut looked = Vec::new(rt.alloc());
     let mut two = [0; 2];
     look_at(&mut store, 1, &mut two, &mut looked)?;
@@ -39,7 +23,7 @@ fn reads_are_kept_and_joined(rt: HostRuntime) -> Result<(), Fail> {
 
 #[test]
 fn a_device_that_fails_is_told(rt: HostRuntime) -> Result<(), Fail> {
-    let mut store = store_of(rt.alloc(), &[1, 2, 3, 4])?;
+    let mut store = MemStore::of_image(rt.alloc(), &[1, 2, 3, 4])?;
     store.fail_at(vec![in rt.alloc(); 1]?);
     let mut looked = Vec::new(rt.alloc());
     let found = bytes_at(rt.alloc(), &mut store, 0, 3, &mut looked);

@@ -1,11 +1,8 @@
 //! Tests: a content is read over a store in memory, and pieces are put one behind the other.
-ghost use Rattle.std.specs.Prelude.{◌≡◌, IfOk};
-ghost use Rattle.disk_defs.specs.Memory.{held_in_memory};
 
 use super::{put, read_pieces};
 use rx_ranges::{Piece, PieceKind};
-use rx_store::{Fault, MemStore, Store};
-use std::alloc::{AllocError, Global};
+use rx_store::{Fault, MemStore};
 use std::test::Fail;
 
 /// Three bytes from byte 2 on, two zeros, and the first two bytes.
@@ -30,22 +27,9 @@ const PIECES: [Piece; 3] = [
     },
 ];
 
-fn store_of(alloc: Global, bytes: &[u8]) -> Result<MemStore, AllocError>
-    ensures { IfOk result (λ store. (held_in_memory store).image ≡ bytes.now) }
-{
-    MemStore::new(
-        alloc,
-        Vec::from_slice(alloc, bytes)?,
-        Vec::new(alloc),
-        0,
-        0,
-        0,
-    )
-}
-
 #[test]
 fn a_content_is_read_across_its_pieces(rt: HostRuntime) -> Result<(), Fail> {
-    let mut store = store_of(rt.alloc(), b"abcdef")?;
+    let mut store = MemStore::of_image(rt.alloc(), b"abcdef")?;
     let mut read = [1; 5];
     assert_eq!(rt; read_pieces(&mut store, &PIECES, 7, 1, &mut read), Ok(()));
     assert_eq!(rt; read.as_slice(), b"de\x00\x00a".as_slice());

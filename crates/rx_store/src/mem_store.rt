@@ -175,6 +175,16 @@ impl MemStore {
         })
     }
 
+    /// A store that holds a copy of an image and no journal, with no room for a change: it is read alone.
+    pub fn of_image(alloc: Global, image: &[u8]) -> Result<MemStore, NoMemory>
+        ensures held { IfOk result (λ store. held_in_memory store ≡ record { image = image.now; journal = [] }) }
+        ensures failing { IfOk result (λ store. store.failing ≡ []) }
+        ensures faults { IfOk result (λ store. store.faults ≡ no_faults) }
+    {
+        let image = Vec::from_slice(alloc, image)?;
+        MemStore::new(alloc, image, Vec::new(alloc), 0, 0, 0)
+    }
+
     /// Lets the calls of the store with these numbers fail, counted from 1 over all of its calls, and no others but those for
     /// which there is no room. A change that fails so changes nothing.
     pub fn fail_at(&mut self, calls: Vec<u64>)

@@ -1,13 +1,10 @@
 //! A UFS1 volume that was written by hand.
-ghost use Rattle.std.specs.Prelude.{◌≡◌, IfOk};
-ghost use Rattle.disk_defs.specs.Memory.{held_in_memory};
 
 use super::read_ufs;
 use range_defs::Range;
 use rx_store::{MemStore, ReadFault};
 use rx_time::Moment;
 use rx_tree::{FileEntry, Kind};
-use std::alloc::{AllocError, Global};
 use std::test::Fail;
 
 /// Writes the superblock, struct fs at 8192.
@@ -73,19 +70,6 @@ fn volume() -> [u8; 17408] {
     bytes
 }
 
-fn store_of(alloc: Global, bytes: &[u8]) -> Result<MemStore, AllocError>
-    ensures { IfOk result (λ store. (held_in_memory store).image ≡ bytes.now) }
-{
-    MemStore::new(
-        alloc,
-        Vec::from_slice(alloc, bytes)?,
-        Vec::new(alloc),
-        0,
-        0,
-        0,
-    )
-}
-
 /// The path of a file by its place among its paths.
 fn path_of(file: &FileEntry, place: usize) -> Option<&str> {
     Some(file.names.items().get(place)?.as_str())
@@ -93,7 +77,7 @@ fn path_of(file: &FileEntry, place: usize) -> Option<&str> {
 
 #[test]
 fn a_volume_is_read(rt: HostRuntime) -> Result<(), Fail> {
-    let mut store = store_of(rt.alloc(), &volume())?;
+    let mut store = MemStore::of_image(rt.alloc(), &volume())?;
     let tree = read_ufs(rt.alloc(), &mut store, 0, 17_408, 7)?;
     let guard = [
         Range { at: 3, len: 8 },
@@ -130,7 +114,7 @@ fn a_volume_is_read(rt: HostRuntime) -> Result<(), Fail> {
 
 #[test]
 fn no_volume_is_found(rt: HostRuntime) -> Result<(), Fail> {
-    let mut store = store_of(rt.alloc(), &volume())?;
+    let mut store = MemStore::of_image(rt.alloc(), &volume())?;
     let found = read_ufs(rt.alloc(), &mut store, 1, 17_407, 0);
     assert_eq!(rt; found.err(), Some(ReadFault::NotThis));
     Ok(())

@@ -1,13 +1,10 @@
 //! Tests of what no clause says: inodes written by hand, at places worked out by the macros, and a device that fails.
-ghost use Rattle.std.specs.Prelude.{◌≡◌, IfOk};
-ghost use Rattle.disk_defs.specs.Memory.{held_in_memory};
 
 use crate::fields::inode_2_from;
 use crate::{InodeBlock, look_at_inode, read_inode};
 use bytes_defs::Order;
 use range_defs::Range;
-use rx_store::{MemStore, ReadFault, Sort, Store, What};
-use std::alloc::{AllocError, Global};
+use rx_store::{MemStore, ReadFault, Sort, What};
 use std::test::Fail;
 use ufs_super::read_super;
 
@@ -45,22 +42,9 @@ fn volume() -> [u8; 49_664] {
     bytes
 }
 
-fn store_of(alloc: Global, bytes: &[u8]) -> Result<MemStore, AllocError>
-    ensures { IfOk result (λ store. (held_in_memory store).image ≡ bytes.now) }
-{
-    MemStore::new(
-        alloc,
-        Vec::from_slice(alloc, bytes)?,
-        Vec::new(alloc),
-        0,
-        0,
-        0,
-    )
-}
-
 #[test]
 fn the_fields_are_those_of_the_inode(rt: HostRuntime) -> Result<(), Fail> {
-    let mut store = store_of(rt.alloc(), &volume())?;
+    let mut store = MemStore::of_image(rt.alloc(), &volume())?;
     let sup = read_super(&mut store, 0, 49_664)
         .ok()
         .ok_or("no superblock")?;
@@ -88,7 +72,7 @@ fn the_fields_are_those_of_the_inode(rt: HostRuntime) -> Result<(), Fail> {
 
 #[test]
 fn a_block_of_the_table_is_read_once(rt: HostRuntime) -> Result<(), Fail> {
-    let mut store = store_of(rt.alloc(), &volume())?;
+    let mut store = MemStore::of_image(rt.alloc(), &volume())?;
     let sup = read_super(&mut store, 0, 49_664)
         .ok()
         .ok_or("no superblock")?;
@@ -113,7 +97,7 @@ fn a_block_of_the_table_is_read_once(rt: HostRuntime) -> Result<(), Fail> {
 
 #[test]
 fn what_is_wrong_is_told_with_its_place(rt: HostRuntime) -> Result<(), Fail> {
-    let mut store = store_of(rt.alloc(), &volume())?;
+    let mut store = MemStore::of_image(rt.alloc(), &volume())?;
     let sup = read_super(&mut store, 0, 49_664)
         .ok()
         .ok_or("no superblock")?;
@@ -148,7 +132,7 @@ fn an_inode_of_ufs2_with_the_highest_byte_first(rt: HostRuntime) {
 
 #[test]
 fn a_device_that_fails_is_told(rt: HostRuntime) -> Result<(), Fail> {
-    let mut store = store_of(rt.alloc(), &volume())?;
+    let mut store = MemStore::of_image(rt.alloc(), &volume())?;
     store.fail_at(vec![in rt.alloc(); 3]?);
     let sup = read_super(&mut store, 0, 49_664)
         .ok()

@@ -1,11 +1,8 @@
 //! Tests of what no clause says: a volume written by hand, a device that fails, and inodes that are kept.
-ghost use Rattle.std.specs.Prelude.{◌≡◌, IfOk};
-ghost use Rattle.disk_defs.specs.Memory.{held_in_memory};
 
 use crate::{KeptInode, Name, read_names};
 use range_defs::Range;
 use rx_store::{MemStore, ReadFault, Sort};
-use std::alloc::{AllocError, Global};
 use std::mem::size_of;
 use std::test::Fail;
 use ufs_inode_defs::Inode;
@@ -85,22 +82,9 @@ fn volume(inode: u8) -> [u8; 49_664] {
     bytes
 }
 
-fn store_of(alloc: Global, bytes: &[u8]) -> Result<MemStore, AllocError>
-    ensures { IfOk result (λ store. (held_in_memory store).image ≡ bytes.now) }
-{
-    MemStore::new(
-        alloc,
-        Vec::from_slice(alloc, bytes)?,
-        Vec::new(alloc),
-        0,
-        0,
-        0,
-    )
-}
-
 #[test]
 fn names_come_breadth_first(rt: HostRuntime) -> Result<(), Fail> {
-    let mut store = store_of(rt.alloc(), &volume(3))?;
+    let mut store = MemStore::of_image(rt.alloc(), &volume(3))?;
     let sup = read_super(&mut store, 0, 49_664)
         .ok()
         .ok_or("no superblock")?;
@@ -129,7 +113,7 @@ fn names_come_breadth_first(rt: HostRuntime) -> Result<(), Fail> {
 
 #[test]
 fn the_root_has_no_other_name(rt: HostRuntime) -> Result<(), Fail> {
-    let mut store = store_of(rt.alloc(), &volume(2))?;
+    let mut store = MemStore::of_image(rt.alloc(), &volume(2))?;
     let sup = read_super(&mut store, 0, 49_664)
         .ok()
         .ok_or("no superblock")?;
@@ -144,7 +128,7 @@ fn the_root_has_no_other_name(rt: HostRuntime) -> Result<(), Fail> {
 
 #[test]
 fn a_read_that_fails_in_mid_walk_is_told(rt: HostRuntime) -> Result<(), Fail> {
-    let mut store = store_of(rt.alloc(), &volume(3))?;
+    let mut store = MemStore::of_image(rt.alloc(), &volume(3))?;
     let sup = read_super(&mut store, 0, 49_664)
         .ok()
         .ok_or("no superblock")?;

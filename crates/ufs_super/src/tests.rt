@@ -1,11 +1,8 @@
 //! Tests of what no clause says: superblocks whose fields were written by hand, and a device that fails at each call.
-ghost use Rattle.std.specs.Prelude.{◌≡◌, IfOk};
-ghost use Rattle.disk_defs.specs.Memory.{held_in_memory};
 
 use super::{look_for_super, read_super, stated_block_size};
 use range_defs::Range;
-use rx_store::{MemStore, ReadFault, Sort, Store};
-use std::alloc::{AllocError, Global};
+use rx_store::{MemStore, ReadFault, Sort};
 use std::test::Fail;
 
 /// The first 9,568 bytes of a UFS1: blocks of 4,096 bytes in 8 fragments, and one group of 64 fragments and 32 inodes.
@@ -26,22 +23,9 @@ fn volume() -> [u8; 9568] {
     bytes
 }
 
-fn store_of(alloc: Global, bytes: &[u8]) -> Result<MemStore, AllocError>
-    ensures { IfOk result (λ store. (held_in_memory store).image ≡ bytes.now) }
-{
-    MemStore::new(
-        alloc,
-        Vec::from_slice(alloc, bytes)?,
-        Vec::new(alloc),
-        0,
-        0,
-        0,
-    )
-}
-
 #[test]
 fn the_fields_are_those_of_the_superblock(rt: HostRuntime) -> Result<(), Fail> {
-    let mut store = store_of(rt.alloc(), &volume())?;
+    let mut store = MemStore::of_image(rt.alloc(), &volume())?;
     let sup = read_super(&mut store, 0, 9568);
     assert_eq!(rt; sup.map(|sup| stated_block_size(&sup)), Ok(4096));
     assert_eq!(rt; sup.map(|sup| (sup.version, sup.ncg)), Ok((1, 1)));
@@ -62,7 +46,7 @@ fn the_fields_are_those_of_the_superblock(rt: HostRuntime) -> Result<(), Fail> {
 fn a_group_without_inodes_is_damage(rt: HostRuntime) -> Result<(), Fail> {
     let mut bytes = volume();
     bytes[8376] = 0;
-    let mut store = store_of(rt.alloc(), &bytes)?;
+    let mut store = MemStore::of_image(rt.alloc(), &bytes)?;
     assert_eq!(rt;
         read_super(&mut store, 0, 9568).err(),
         Some(ReadFault::Damaged(Sort::SuperField, 8376))
@@ -72,7 +56,7 @@ fn a_group_without_inodes_is_damage(rt: HostRuntime) -> Result<(), Fail> {
 
 #[test]
 fn the_probes_and_the_superblock_are_kept(rt: HostRuntime) -> Result<(), Fail> {
-    let mut store = store_of(rt.alloc(), &volume())?;
+    let mut store = MemStore::of_image(rt.alloc(), &volume())?;
     let mut looked = Vec::new(rt.alloc());
     assert!(rt; look_for_super(&mut store, 0, 9568, &mut looked).is_ok());
     assert_eq!(rt; looked.len(), 5);
@@ -90,7 +74,7 @@ fn the_probes_and_the_superblock_are_kept(rt: HostRuntime) -> Result<(), Fail> {
 #[test]
 fn a_device_that_fails_is_told(rt: HostRuntime) -> Result<(), Fail> {
     for call in 1..3 {
-        let mut store = store_of(rt.alloc(), &volume())?;
+        let mut store = MemStore::of_image(rt.alloc(), &volume())?;
         store.fail_at(vec![in rt.alloc(); call]?);
         assert_eq!(rt;
             read_super(&mut store, 0, 9568).err(),
