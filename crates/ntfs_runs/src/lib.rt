@@ -10,8 +10,6 @@
 
 mod decode;
 mod runs;
-#[cfg(test)]
-mod tests;
 pub(crate) mod written;
 
 pub use decode::decode_runs;

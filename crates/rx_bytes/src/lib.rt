@@ -15,9 +15,6 @@ ghost use Rattle.std.specs.Option.{SomeIff};
 ghost use Rattle.bytes_defs.specs.Bytes.{part};
 ghost use Rattle.bytes_defs.specs.Numbers.{little_at, little_signed_at, big_at};
 
-#[cfg(test)]
-mod tests;
-
 use bytes_defs::Order::{Big, Little};
 use bytes_defs::{i32_at, i64_at, u16_at, u32_at, u64_at};
 use std::marker::Model;

@@ -13,8 +13,6 @@ pub(crate) mod bytes;
 pub(crate) mod characters;
 mod name;
 pub(crate) mod pushing;
-#[cfg(test)]
-mod tests;
 pub(crate) mod units;
 mod word;
 mod xml;

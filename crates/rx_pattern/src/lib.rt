@@ -16,8 +16,6 @@ pub(crate) mod letters;
 pub(crate) mod matching;
 mod pattern;
 pub(crate) mod reading;
-#[cfg(test)]
-mod tests;
 
 pub use class::{Class, Member, Members};
 pub use fault::{NoMemory, PatternFault};

@@ -1,5 +1,5 @@
-//! Examples with values that are worked out by hand.
-use super::*;
+//! Fields of slices, with values that are worked out by hand.
+use rx_bytes::View;
 
 /// Twelve bytes that tell their places and the two orders apart, with the sign bit in some.
 const BYTES: [u8; 12] = [

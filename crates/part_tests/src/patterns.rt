@@ -1,6 +1,5 @@
-//! Examples with values that are worked out by hand.
-
-use super::*;
+//! Patterns of names, and texts that they match or don't.
+use rx_pattern::{Pattern, PatternFault};
 use std::alloc::Global;
 use std::test::Fail;
 

@@ -1,5 +1,5 @@
-//! Examples with values that are worked out by hand.
-use super::*;
+//! Printed names, words and texts, with values that are worked out by hand.
+use rx_names::{NameRef, NoMemory, print_name, print_word, xml_text};
 use rx_ranges::Text;
 use std::alloc::Global;
 use std::process::Abort;

@@ -1,8 +1,8 @@
 //! Run lists whose runs are worked out by hand.
 ghost use Rattle.std.specs.Prelude.{◌≡◌};
 
-use super::*;
 use ntfs_defs::{Run, RunFault};
+use ntfs_runs::{Runs, decode_runs};
 use std::test::Fail;
 
 /// A volume that is larger than all that the lists name.
