@@ -1,5 +1,5 @@
 -- What a status of `redact` says where a stage gave it.
-use Rattle.std.proofs.Common.{◌≡◌, ◌≤◌, ℕ, Option, Some, None, IfSome, Ok, Err, List, length, refl, sym, ◌∙◌, ap, subst, inl, inr}
+use Rattle.std.proofs.Common.{◌≡◌, ◌≤◌, ℕ, Option, Some, None, IfSome, Ok, List, length, refl, sym, ◌∙◌, ap, subst, inl, inr}
 use Rattle.disk_defs.specs.Story.{Held, Sync}
 use Rattle.disk_defs.specs.Disk.{State, held, size_of, state_after, state_after_all}
 use Rattle.disk_defs.specs.declared.Area.TheVariants.{Image}
@@ -17,19 +17,16 @@ use Rattle.text_defs.specs.Report.{report}
 use Rattle.text_defs.specs.declared.ReportState.TheVariants as state
 use Rattle.rule_parse.specs.declared.RuleFault.{RuleFault}
 use Rattle.rule_parse.specs.declared.RuleFault.TheVariants as rules
-use Rattle.rx_plan.specs.declared.PlanFault.{PlanFault}
 use Rattle.cmd_defs.specs.JournalFacts.{IsUntouched}
 use Rattle.cmd_defs.specs.Outcome.{IfTextAndHeld}
-use Rattle.cmd_defs.specs.RedactCommand.{IsPlanned, IsRedacted, HasRedacted, RedactSays}
+use Rattle.cmd_defs.specs.RedactCommand.{IsPlanned, IsRedacted, HasRedacted, WasStopped, RedactSays}
 use Rattle.cmd_defs.specs.declared.status.Status.{Status}
 use Rattle.cmd_defs.specs.declared.status.Status.TheVariants.{Done, Usage, PlanRefused, JournalOpen, JournalRefused, DeviceFault, SourceFault, SinkFault, NoMemory, NotBuilt}
 use Rattle.cmd_defs.specs.declared.status.PlanRefusal.TheVariants.{MeetsGuard}
 use Rattle.cmd_defs.specs.PlanCommand.{PlanSays}
 use Rattle.cmd_defs.proofs.StoreLaws.{script_carried}
-use Rattle.image_reader.specs.Says.{HasTree, TellsTree}
-use Rattle.image_reader.specs.declared.fault.ImageFault.{ImageFault}
-use Rattle.redact_cmd.specs.Stages.{status_of_rules, status_of_reading, status_of_planning}
-use Rattle.redact_cmd.proofs.Says.{image_refused, plan_refused, NamesGuarded, NamesLimit}
+use Rattle.image_reader.specs.Says.{HasTree}
+use Rattle.redact_cmd.specs.Stages.{status_of_rules, HasPlan, RefusesPlan, CarriesOut}
 
 -- ---- the rules
 
@@ -80,31 +77,12 @@ from_plan t h before now W P NotBuilt says untouched closed = (says, λ rules. c
 from_plan t h before now W P (PlanRefused (MeetsGuard byte number)) says untouched closed = (says, closed)
 from_plan t h before now W P status says untouched closed = (says, closed)
 
-pub no_tree : (text : Option (List ℕ)) (told : Option Held) (before now : State) (W P : List ℕ → Type 0) (rules : List Rule) (fault : ImageFault) (status : Status)
-    → status ≡ status_of_reading fault → IfSome text (λ t. Reads t rules)
-    → IsUntouched before now → IfSome told (λ h. ¬ (IsOpen h.journal)) → IfSome told (λ h. TellsTree (Err fault) h.image)
+pub no_plan : (text : Option (List ℕ)) (told : Option Held) (before now : State) (W P : List ℕ → Type 0) (rules : List Rule) (status : Status) → IfSome text (λ t. Reads t rules)
+    → IsUntouched before now → IfSome told (λ h. ¬ (IsOpen h.journal)) → IfSome told (λ h. RefusesPlan status h.image rules)
     → IfTextAndHeld text told (λ t h. RedactSays status t h before now W P)
-no_tree None told before now W P rules fault status is reads untouched closed tells = tt
-no_tree (Some t) None before now W P rules fault status is reads untouched closed tells = tt
-no_tree (Some t) (Some h) before now W P rules fault status is reads untouched closed tells =
-    from_plan t h before now W P status (image_refused (Some t) (Some h.image) (λ text. ⊥) (λ text. ⊥) rules fault status is reads tells) untouched closed
-
-pub no_plan : (text : Option (List ℕ)) (told : Option Held) (before now : State) (W P : List ℕ → Type 0) (rules : List Rule) (tree : TreeValue) (fault : PlanFault) (status : Status)
-    → status ≡ status_of_planning fault → IfSome text (λ t. Reads t rules) → IsUntouched before now → IfSome told (λ h. ¬ (IsOpen h.journal)) → IfSome told (λ h. HasTree h.image (Ok tree))
-    → NamesGuarded tree rules fault → NamesLimit tree rules fault → IfTextAndHeld text told (λ t h. RedactSays status t h before now W P)
-no_plan None told before now W P rules tree fault status is reads untouched closed tree_is guarded limit = tt
-no_plan (Some t) None before now W P rules tree fault status is reads untouched closed tree_is guarded limit = tt
-no_plan (Some t) (Some h) before now W P rules tree fault status is reads untouched closed tree_is guarded limit =
-    from_plan t h before now W P status
-    (plan_refused (Some t) (Some h.image) (λ text. ⊥) (λ text. ⊥) rules tree fault status is reads tree_is guarded limit) untouched closed
-
--- the plan of a tree has the length of the tree's image
-plan_len : (tree : TreeValue) (rules : List Rule) → (plan_of tree rules).image_len ≡ tree.image_len
-unfolding plan_of
-plan_len tree rules = refl
-
-pub sized_plan : (tree : TreeValue) (rules : List Rule) (plan : Plan) (size : ℕ) → plan ≡ plan_of tree rules → tree.image_len ≡ size → size ≡ plan.image_len
-sized_plan tree rules plan size is sized = sym sized ∙ sym (plan_len tree rules) ∙ ap (λ (plan : Plan). plan.image_len) (sym is)
+no_plan None told before now W P rules status reads untouched closed refused = tt
+no_plan (Some t) None before now W P rules status reads untouched closed refused = tt
+no_plan (Some t) (Some h) before now W P rules status reads untouched closed refused = from_plan t h before now W P status (refused t reads) untouched closed
 
 -- ---- the session
 
@@ -121,39 +99,48 @@ planned t h rules tree plan is is_plan reads closed tree_is unguarded = record {
 session_calls : (plan : Plan) (session : SessionValue) → session ≡ new_session plan Begun None → changes_of (calls_of session.plan session.start) ≡ changes_of (script plan)
 session_calls plan session is = ap (λ (session : SessionValue). changes_of (calls_of session.plan session.start)) is
 
-pub redact_stopped : (text : Option (List ℕ)) (told : Option Held) (before synced now : State) (W P : List ℕ → Type 0) (rules : List Rule) (tree : TreeValue) (plan : Plan) (session : SessionValue)
-    → plan ≡ plan_of tree rules → IsPlan plan → session ≡ new_session plan Begun None → synced ≡ state_after Sync before
-    → IsStopped (changes_of (calls_of session.plan session.start)) synced now → IfSome text (λ t. Reads t rules) → IfSome told (λ h. ¬ (IsOpen h.journal))
-    → IfSome told (λ h. HasTree h.image (Ok tree)) → guarded_byte tree rules ≡ None → IfTextAndHeld text told (λ t h. RedactSays DeviceFault t h before now W P)
-redact_stopped None told before synced now W P rules tree plan session plan_is is_plan session_is is stopped reads closed tree_is unguarded = tt
-redact_stopped (Some t) None before synced now W P rules tree plan session plan_is is_plan session_is is stopped reads closed tree_is unguarded = tt
-redact_stopped (Some t) (Some h) before synced now W P rules tree plan session plan_is is_plan session_is is stopped reads closed tree_is unguarded =
+stopped : (t : List ℕ) (h : Held) (before synced now : State) (rules : List Rule) (tree : TreeValue) (plan : Plan) (session : SessionValue) → plan ≡ plan_of tree rules
+    → session ≡ new_session plan Begun None → synced ≡ state_after Sync before → IsStopped (changes_of (calls_of session.plan session.start)) synced now
+    → IsPlanned t h rules tree → WasStopped t h before now
+stopped t h before synced now rules tree plan session plan_is session_is is left planned =
     let calls = session_calls plan session session_is ∙ ap (λ plan. changes_of (script plan)) plan_is in (
-      (rules, reads),
-      inr (
-        rules,
-        tree,
-        planned t h rules tree plan plan_is is_plan reads closed tree_is unguarded,
-        subst (λ state. IsStopped (changes_of (script (plan_of tree rules))) state now) is (subst (λ changes. IsStopped changes synced now) calls stopped),
-      ),
+      rules,
+      tree,
+      planned,
+      subst (λ state. IsStopped (changes_of (script (plan_of tree rules))) state now) is (subst (λ changes. IsStopped changes synced now) calls left),
     )
 
-pub redacted : (text : Option (List ℕ)) (told : Option Held) (before synced now : State) (W : List ℕ → Type 0) (rules : List Rule) (tree : TreeValue) (plan : Plan) (session : SessionValue) (size : ℕ)
-    → held before ≡ told → plan ≡ plan_of tree rules → IsPlan plan → session ≡ new_session plan Begun None → synced ≡ state_after Sync before
-    → now ≡ state_after_all (changes_of (calls_of session.plan session.start)) synced → IfSome text (λ t. Reads t rules) → IfSome told (λ h. ¬ (IsOpen h.journal))
-    → IfSome told (λ h. HasTree h.image (Ok tree)) → guarded_byte tree rules ≡ None → IfSome told (λ h. length h.image ≡ size) → size ≡ plan.image_len
-    → W (report plan state.Done) → IfTextAndHeld text told (λ t h. HasRedacted t h before now W)
-redacted None told before synced now W rules tree plan session size told_is plan_is is_plan session_is is done reads closed tree_is unguarded sized fits wrote = tt
-redacted (Some t) None before synced now W rules tree plan session size told_is plan_is is_plan session_is is done reads closed tree_is unguarded sized fits wrote = tt
-redacted (Some t) (Some h) before synced now W rules tree plan session size told_is plan_is is_plan session_is is done reads closed tree_is unguarded sized fits wrote =
+redacted : (t : List ℕ) (h : Held) (before synced now : State) (W : List ℕ → Type 0) (rules : List Rule) (tree : TreeValue) (plan : Plan) (session : SessionValue) → held before ≡ Some h
+    → plan ≡ plan_of tree rules → IsPlan plan → session ≡ new_session plan Begun None → synced ≡ state_after Sync before
+    → now ≡ state_after_all (changes_of (calls_of session.plan session.start)) synced → IsPlanned t h rules tree → length h.image ≡ plan.image_len
+    → W (report plan state.Done) → HasRedacted t h before now W
+redacted t h before synced now W rules tree plan session told_is plan_is is_plan session_is is done planned sized wrote =
     let made : now ≡ state_after_all (changes_of (script plan)) (state_after Sync before) =
     done ∙ ap (λ changes. state_after_all changes synced) (session_calls plan session session_is) ∙ ap (state_after_all (changes_of (script plan))) is in (
       rules,
       tree,
-      planned t h rules tree plan plan_is is_plan reads closed tree_is unguarded,
-      subst (λ plan. IsRedacted h plan before now) plan_is (script_carried plan before now h is_plan (sized ∙ fits) told_is made),
+      planned,
+      subst (λ plan. IsRedacted h plan before now) plan_is (script_carried plan before now h is_plan sized told_is made),
       subst (λ plan. W (report plan state.Done)) plan_is wrote,
     )
+
+-- where a session of the plan was made
+pub carried : (text : Option (List ℕ)) (told : Option Held) (before synced now : State) (W P : List ℕ → Type 0) (rules : List Rule) (plan : Plan) (session : SessionValue) (status : Status)
+    → held before ≡ told → IsPlan plan → session ≡ new_session plan Begun None → synced ≡ state_after Sync before
+    → CarriesOut status (changes_of (calls_of session.plan session.start)) synced now (W (report plan state.Done)) (P (report plan state.Done))
+    → IfSome text (λ t. Reads t rules) → IfSome told (λ h. ¬ (IsOpen h.journal)) → IfSome told (λ h. HasPlan h.image rules plan)
+    → IfSome told (λ h. length h.image ≡ plan.image_len) → IfTextAndHeld text told (λ t h. RedactSays status t h before now W P)
+carried None told before synced now W P rules plan session status told_is is_plan session_is is says reads closed has sized = tt
+carried (Some t) None before synced now W P rules plan session status told_is is_plan session_is is says reads closed has sized = tt
+carried (Some t) (Some h) before synced now W P rules plan session Done told_is is_plan session_is is says reads closed (tree, tree_is, unguarded, plan_is) sized =
+    redacted t h before synced now W rules tree plan session told_is plan_is is_plan session_is is says.0
+    (planned t h rules tree plan plan_is is_plan reads closed tree_is unguarded) sized says.1
+carried (Some t) (Some h) before synced now W P rules plan session SinkFault told_is is_plan session_is is says reads closed (tree, tree_is, unguarded, plan_is) sized =
+    redacted t h before synced now P rules tree plan session told_is plan_is is_plan session_is is says.0
+    (planned t h rules tree plan plan_is is_plan reads closed tree_is unguarded) sized says.1
+carried (Some t) (Some h) before synced now W P rules plan session DeviceFault told_is is_plan session_is is says reads closed (tree, tree_is, unguarded, plan_is) sized =
+    ((rules, reads), inr (stopped t h before synced now rules tree plan session plan_is session_is is says (planned t h rules tree plan plan_is is_plan reads closed tree_is unguarded)))
+carried (Some t) (Some h) before synced now W P rules plan session status told_is is_plan session_is is says reads closed has sized = absurd says
 
 -- the sizes with which the session of a plan begins
 pub begun_sizes : (plan : Plan) (session : SessionValue) (state : State) → session ≡ new_session plan Begun None → size_of Image state ≡ plan.image_len → HasSizes session state

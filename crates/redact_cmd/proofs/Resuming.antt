@@ -15,11 +15,11 @@ use Rattle.session_defs.specs.Session.{SessionValue, Resumed, IsStopped, calls_o
 use Rattle.text_defs.specs.Report.{report}
 use Rattle.text_defs.specs.declared.ReportState.TheVariants as state
 use Rattle.cmd_defs.specs.JournalFacts.{HoldsPlan}
-use Rattle.cmd_defs.specs.ResumeCommand.{HasFinished, ResumeSays}
+use Rattle.cmd_defs.specs.ResumeCommand.{IsResumed, HasFinished, WasStopped, ResumeSays}
 use Rattle.cmd_defs.specs.declared.status.Status.{Status}
-use Rattle.cmd_defs.specs.declared.status.Status.TheVariants.{DeviceFault}
+use Rattle.cmd_defs.specs.declared.status.Status.TheVariants.{Done, DeviceFault, SinkFault}
 use Rattle.cmd_defs.proofs.StoreLaws.{rest_carried, of_area, of_synced}
-use Rattle.redact_cmd.specs.Stages.{status_of_journal}
+use Rattle.redact_cmd.specs.Stages.{status_of_journal, CarriesOut}
 
 -- what a test of the length answers
 abbrev Fits : Type 0
@@ -62,29 +62,41 @@ session_calls : (plan : Plan) (groups : List Bool) (last : Bool) (session : Sess
     → changes_of (calls_of session.plan session.start) ≡ changes_of (rest_of plan groups last)
 session_calls plan groups last session is = ap (λ (session : SessionValue). changes_of (calls_of session.plan session.start)) is
 
-pub resume_stopped : (told : Option Held) (before synced now : State) (W P : List ℕ → Type 0) (plan : Plan) (groups : List Bool) (last : Bool) (found : ℕ) (session : SessionValue)
-    → session ≡ new_session plan (Resumed groups last) (Some (journal_len plan)) → plan.image_len ≡ found → synced ≡ state_after Sync before
-    → IsStopped (changes_of (calls_of session.plan session.start)) synced now → IfSome told (λ held. HoldsPlan held.journal plan groups last)
-    → IfSome told (λ held. length held.image ≡ found) → IfSome told (λ held. ResumeSays DeviceFault held before now W P)
-resume_stopped None before synced now W P plan groups last found session session_is fits is stopped holds sized = tt
-resume_stopped (Some held) before synced now W P plan groups last found session session_is fits is stopped holds sized =
-    inr (
+stopped : (h : Held) (before synced now : State) (plan : Plan) (groups : List Bool) (last : Bool) (session : SessionValue)
+    → session ≡ new_session plan (Resumed groups last) (Some (journal_len plan)) → synced ≡ state_after Sync before
+    → IsStopped (changes_of (calls_of session.plan session.start)) synced now → IsResumed h plan groups last → WasStopped h before now
+stopped h before synced now plan groups last session session_is is left resumed =
+    let calls = session_calls plan groups last session session_is in (
       plan,
       groups,
       last,
-      record { holds = holds; fits = fits ∙ sym sized },
-      subst (λ state. IsStopped (changes_of (rest_of plan groups last)) state now) is (subst (λ changes. IsStopped changes synced now) (session_calls plan groups last session session_is) stopped),
+      resumed,
+      subst (λ state. IsStopped (changes_of (rest_of plan groups last)) state now) is (subst (λ changes. IsStopped changes synced now) calls left),
     )
 
-pub resumed : (told : Option Held) (before synced now : State) (P : List ℕ → Type 0) (plan : Plan) (groups : List Bool) (last : Bool) (found : ℕ) (session : SessionValue)
-    → held before ≡ told → session ≡ new_session plan (Resumed groups last) (Some (journal_len plan)) → plan.image_len ≡ found → synced ≡ state_after Sync before
-    → now ≡ state_after_all (changes_of (calls_of session.plan session.start)) synced → IfSome told (λ held. HoldsPlan held.journal plan groups last)
-    → IfSome told (λ held. length held.image ≡ found) → P (report plan state.Done) → IfSome told (λ held. HasFinished held before now P)
-resumed None before synced now P plan groups last found session told_is session_is fits is done holds sized wrote = tt
-resumed (Some held) before synced now P plan groups last found session told_is session_is fits is done holds sized wrote =
+finished : (h : Held) (before synced now : State) (W : List ℕ → Type 0) (plan : Plan) (groups : List Bool) (last : Bool) (session : SessionValue) → held before ≡ Some h
+    → session ≡ new_session plan (Resumed groups last) (Some (journal_len plan)) → synced ≡ state_after Sync before
+    → now ≡ state_after_all (changes_of (calls_of session.plan session.start)) synced → IsResumed h plan groups last → W (report plan state.Done)
+    → HasFinished h before now W
+finished h before synced now W plan groups last session told_is session_is is done resumed wrote =
     let made : now ≡ state_after_all (changes_of (rest_of plan groups last)) (state_after Sync before) =
     done ∙ ap (λ changes. state_after_all changes synced) (session_calls plan groups last session session_is) ∙ ap (state_after_all (changes_of (rest_of plan groups last))) is in
-    (plan, groups, last, record { holds = holds; fits = fits ∙ sym sized }, rest_carried plan groups last before now held holds (sized ∙ sym fits) told_is made, wrote)
+    (plan, groups, last, resumed, rest_carried plan groups last before now h resumed.holds (sym resumed.fits) told_is made, wrote)
+
+-- where a session of the journal's plan was made
+pub carried : (told : Option Held) (before synced now : State) (W P : List ℕ → Type 0) (plan : Plan) (groups : List Bool) (last : Bool) (found : ℕ) (session : SessionValue) (status : Status)
+    → held before ≡ told → session ≡ new_session plan (Resumed groups last) (Some (journal_len plan)) → plan.image_len ≡ found → synced ≡ state_after Sync before
+    → CarriesOut status (changes_of (calls_of session.plan session.start)) synced now (W (report plan state.Done)) (P (report plan state.Done))
+    → IfSome told (λ h. HoldsPlan h.journal plan groups last) → IfSome told (λ h. length h.image ≡ found)
+    → IfSome told (λ h. ResumeSays status h before now W P)
+carried None before synced now W P plan groups last found session status told_is session_is fits is says holds sized = tt
+carried (Some h) before synced now W P plan groups last found session Done told_is session_is fits is says holds sized =
+    finished h before synced now W plan groups last session told_is session_is is says.0 (record { holds = holds; fits = fits ∙ sym sized }) says.1
+carried (Some h) before synced now W P plan groups last found session SinkFault told_is session_is fits is says holds sized =
+    finished h before synced now P plan groups last session told_is session_is is says.0 (record { holds = holds; fits = fits ∙ sym sized }) says.1
+carried (Some h) before synced now W P plan groups last found session DeviceFault told_is session_is fits is says holds sized =
+    inr (stopped h before synced now plan groups last session session_is is says (record { holds = holds; fits = fits ∙ sym sized }))
+carried (Some h) before synced now W P plan groups last found session status told_is session_is fits is says holds sized = absurd says
 
 -- what was read of the journal behind a sync
 pub held_plan : (before synced : State) (state : JournalState) → synced ≡ state_after Sync before → IfSome (told_journal synced) (λ bytes. Says bytes (Ok state))

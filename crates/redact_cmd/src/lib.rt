@@ -9,8 +9,10 @@
 //!     write_status(&status, &mut errors)?;
 #![tactic(auto)]
 
+mod carrying;
 mod commands;
 mod plan_command;
+mod planning;
 mod redact_command;
 mod report_command;
 mod resume_command;

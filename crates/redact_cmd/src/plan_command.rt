@@ -6,11 +6,10 @@ ghost use Rattle.disk_defs.specs.Count.{Rose};
 ghost use Rattle.cmd_defs.specs.Outcome.{IfBothTold, IsSilent};
 ghost use Rattle.cmd_defs.specs.PlanCommand.{SaysRules, PlanSays};
 
-use crate::status::{status_of_planning, status_of_reading, status_of_rules};
+use crate::planning::planned;
+use crate::status::status_of_rules;
 use cmd_defs::Status;
-use image_reader::read_image;
 use rule_parse::read_rules;
-use rx_plan::make_plan;
 use rx_report::write_report;
 use rx_store::{Sink, Source, Store};
 use std::alloc::Global;
@@ -42,13 +41,9 @@ pub(crate) fn plan<S: Store, R: Source, K: Sink>(
         Ok(rules) => rules,
         Err(fault) => return status_of_rules(fault),
     };
-    let tree = match read_image(alloc, store) {
-        Ok(tree) => tree,
-        Err(fault) => return status_of_reading(fault),
-    };
-    let plan = match make_plan(alloc, store, &tree, &rules) {
+    let plan = match planned(alloc, store, &rules) {
         Ok(plan) => plan,
-        Err(fault) => return status_of_planning(fault),
+        Err(status) => return status,
     };
     match write_report(out, &plan, ReportState::Planned) {
         Ok(()) => Status::Done,

@@ -9,17 +9,15 @@ ghost use Rattle.cmd_defs.specs.Outcome.{IfTextAndHeld, IsRefusal, IsSilent};
 ghost use Rattle.cmd_defs.specs.PlanCommand.{SaysRules};
 ghost use Rattle.cmd_defs.specs.RedactCommand.{RedactSays};
 
-use crate::status::{status_of_planning, status_of_reading, status_of_rules};
+use crate::carrying::carry_out;
+use crate::planning::planned;
+use crate::status::status_of_rules;
 use cmd_defs::Status;
-use image_reader::read_image;
 use journal_format::stands_open;
-use redo_session::{Session, finish};
+use redo_session::Session;
 use rule_parse::read_rules;
-use rx_plan::make_plan;
-use rx_report::write_report;
 use rx_store::{Sink, Source, Store};
 use std::alloc::Global;
-use text_defs::ReportState;
 
 /// The command `redact`: reads the rules and the image, carries their plan out through the journal, and writes its report.
 pub(crate) fn redact<S: Store, R: Source, K: Sink>(
@@ -55,24 +53,12 @@ pub(crate) fn redact<S: Store, R: Source, K: Sink>(
         Ok(false) => {}
         Err(_) => return Status::DeviceFault,
     }
-    let tree = match read_image(alloc, store) {
-        Ok(tree) => tree,
-        Err(fault) => return status_of_reading(fault),
-    };
-    let plan = match make_plan(alloc, store, &tree, &rules) {
+    let plan = match planned(alloc, store, &rules) {
         Ok(plan) => plan,
-        Err(fault) => return status_of_planning(fault),
+        Err(status) => return status,
     };
-    let mut session = match Session::begin(alloc, &plan) {
-        Ok(session) => session,
-        Err(_) => return Status::NoMemory,
-    };
-    match finish(&mut session, store) {
-        Ok(()) => {}
-        Err(_) => return Status::DeviceFault,
-    }
-    match write_report(out, &plan, ReportState::Done) {
-        Ok(()) => Status::Done,
-        Err(_) => Status::SinkFault,
+    match Session::begin(alloc, &plan) {
+        Ok(session) => carry_out(session, &plan, store, out),
+        Err(_) => Status::NoMemory,
     }
 }

@@ -8,14 +8,13 @@ ghost use Rattle.cmd_defs.specs.JournalFacts.{IsUntouched};
 ghost use Rattle.cmd_defs.specs.Outcome.{IsRefusal, IsSilent};
 ghost use Rattle.cmd_defs.specs.ResumeCommand.{ResumeSays};
 
+use crate::carrying::carry_out;
 use crate::status::status_of_journal;
 use cmd_defs::Status;
 use journal_format::read_journal;
-use redo_session::{Session, finish};
-use rx_report::write_report;
+use redo_session::Session;
 use rx_store::{Area, Sink, Store};
 use std::alloc::Global;
-use text_defs::ReportState;
 
 /// The command `resume`: finishes the plan of a journal that stands open, and writes its report.
 pub(crate) fn resume<S: Store, K: Sink>(alloc: Global, store: &mut S, out: &mut K) -> Status
@@ -46,16 +45,8 @@ pub(crate) fn resume<S: Store, K: Sink>(alloc: Global, store: &mut S, out: &mut 
         Ok(()) => {}
         Err(fault) => return status_of_journal(fault),
     }
-    let mut session = match Session::resume(alloc, &state) {
-        Ok(session) => session,
-        Err(_) => return Status::NoMemory,
-    };
-    match finish(&mut session, store) {
-        Ok(()) => {}
-        Err(_) => return Status::DeviceFault,
-    }
-    match write_report(out, &state.plan, ReportState::Done) {
-        Ok(()) => Status::Done,
-        Err(_) => Status::SinkFault,
+    match Session::resume(alloc, &state) {
+        Ok(session) => carry_out(session, &state.plan, store, out),
+        Err(_) => Status::NoMemory,
     }
 }
