@@ -1,5 +1,6 @@
-//! Tests of the parts of the commands: the stores, the sets of ranges, the making of plans, the report, the rule text, the words of
-//! a command and the lines of its statuses; and of parts that stand alone: fields of slices, printed names, run lists, patterns.
+//! Tests of the parts of the commands: the stores, the sets of ranges, the report, the words of a command and the lines of its
+//! statuses; and of parts that stand alone: fields of slices, printed names, run lists, patterns. Rule texts and plans are tested with
+//! whole commands, in `run_tests`.
 //!
 //! They are of public calls, on what no clause says: that a call succeeds where memory is ample, what a real file gives, and what is
 //! printed. They stand in a crate of their own since a crate that has tests is proved once more with them, and the proofs of these
@@ -12,8 +13,6 @@
 #[cfg(test)]
 mod fields;
 #[cfg(test)]
-mod making;
-#[cfg(test)]
 mod names;
 #[cfg(test)]
 mod patterns;
@@ -21,8 +20,6 @@ mod patterns;
 mod ranges;
 #[cfg(test)]
 mod reports;
-#[cfg(test)]
-mod rules;
 #[cfg(test)]
 mod runs;
 #[cfg(test)]

@@ -16,63 +16,74 @@ fn open_at(alloc: Global, pattern: &str) -> Result<Option<usize>, PatternFault> 
     }
 }
 
+/// Patterns, texts, and whether they match.
+const TEXTS: &[(&str, &str, bool)] = &[
+    ("f*3.dat", "f0013.dat", true),
+    ("f*3.dat", "f0013.data", false),
+    ("*", "", true),
+    ("", "", true),
+    ("", "a", false),
+    ("?", "", false),
+    ("*ab*ab", "abxaabab", true),
+    ("*ab*ab", "xab", false),
+    // classes
+    ("[]]", "]", true),
+    ("[!a-c]", "d", true),
+    ("[!a-c]", "b", false),
+    ("[a-]", "-", true),
+    ("[a-]]", "a]", true),
+    ("[]-a]", "_", true),
+    ("[--a]", ".", true),
+    // a range that runs back is empty
+    ("[b-a]", "a", false),
+    ("[b-a]", "b", false),
+    ("[b-a]", "-", false),
+    ("[!b-a]", "b", true),
+    ("[!b-a]", "ab", false),
+    // characters of several bytes
+    ("[à-ï]", "é", true),
+    ("[à-ï]", "ñ", false),
+    ("[€]?", "€😀", true),
+    ("[!€]", "😀", true),
+    ("é*😀", "é€€😀", true),
+    ("??", "é", false),
+];
+
 #[test]
-fn stars_and_single_characters(rt: HostRuntime) -> Result<(), Fail> {
-    assert!(rt; matches(rt.alloc(), "f*3.dat", "f0013.dat")?);
-    assert!(rt; !matches(rt.alloc(), "f*3.dat", "f0013.data")?);
-    assert!(rt; matches(rt.alloc(), "*", "")?);
-    assert!(rt; matches(rt.alloc(), "", "")?);
-    assert!(rt; !matches(rt.alloc(), "", "a")?);
-    assert!(rt; !matches(rt.alloc(), "?", "")?);
-    assert!(rt; matches(rt.alloc(), "*ab*ab", "abxaabab")?);
-    assert!(rt; !matches(rt.alloc(), "*ab*ab", "xab")?);
+fn a_text_matches_or_not(rt: HostRuntime) -> Result<(), Fail> {
+    for (pattern, text, wanted) in TEXTS {
+        assert_eq!(rt;
+            matches(rt.alloc(), pattern, text)?,
+            *wanted,
+            "{pattern} {text}"
+        );
+    }
     Ok(())
 }
 
-#[test]
-fn classes(rt: HostRuntime) -> Result<(), Fail> {
-    assert!(rt; matches(rt.alloc(), "[]]", "]")?);
-    assert!(rt; matches(rt.alloc(), "[!a-c]", "d")?);
-    assert!(rt; !matches(rt.alloc(), "[!a-c]", "b")?);
-    assert!(rt; matches(rt.alloc(), "[a-]", "-")?);
-    assert!(rt; matches(rt.alloc(), "[a-]]", "a]")?);
-    assert!(rt; matches(rt.alloc(), "[]-a]", "_")?);
-    assert!(rt; matches(rt.alloc(), "[--a]", ".")?);
-    Ok(())
-}
-
-#[test]
-fn a_range_that_runs_back_is_empty(rt: HostRuntime) -> Result<(), Fail> {
-    assert!(rt; !matches(rt.alloc(), "[b-a]", "a")?);
-    assert!(rt; !matches(rt.alloc(), "[b-a]", "b")?);
-    assert!(rt; !matches(rt.alloc(), "[b-a]", "-")?);
-    assert!(rt; matches(rt.alloc(), "[!b-a]", "b")?);
-    assert!(rt; !matches(rt.alloc(), "[!b-a]", "ab")?);
-    Ok(())
-}
-
-#[test]
-fn characters_of_several_bytes(rt: HostRuntime) -> Result<(), Fail> {
-    assert!(rt; matches(rt.alloc(), "[à-ï]", "é")?);
-    assert!(rt; !matches(rt.alloc(), "[à-ï]", "ñ")?);
-    assert!(rt; matches(rt.alloc(), "[€]?", "€😀")?);
-    assert!(rt; matches(rt.alloc(), "[!€]", "😀")?);
-    assert!(rt; matches(rt.alloc(), "é*😀", "é€€😀")?);
-    assert!(rt; !matches(rt.alloc(), "??", "é")?);
-    Ok(())
-}
+const CLASSES: &[(&str, Option<usize>)] = &[
+    ("x[]", Some(1)),
+    ("[a", Some(0)),
+    ("[!]", Some(0)),
+    ("é[", Some(2)),
+    ("[a][", Some(3)),
+    ("[a[b", Some(0)),
+    ("[a]", None),
+];
 
 #[test]
 fn the_first_open_class_is_named(rt: HostRuntime) -> Result<(), Fail> {
-    assert_eq!(rt; open_at(rt.alloc(), "x[]")?, Some(1));
-    assert_eq!(rt; open_at(rt.alloc(), "[a")?, Some(0));
-    assert_eq!(rt; open_at(rt.alloc(), "[!]")?, Some(0));
-    assert_eq!(rt; open_at(rt.alloc(), "é[")?, Some(2));
-    assert_eq!(rt; open_at(rt.alloc(), "[a][")?, Some(3));
-    assert_eq!(rt; open_at(rt.alloc(), "[a[b")?, Some(0));
-    assert_eq!(rt; open_at(rt.alloc(), "[a]")?, None);
+    for (pattern, at) in CLASSES {
+        assert_eq!(rt; open_at(rt.alloc(), pattern)?, *at, "{pattern}");
+    }
     Ok(())
 }
+
+const MANY_STARS: &[(&str, bool)] = &[
+    ("****a", false),
+    ("*b*b*b*b*b*b*b*b*a", false),
+    ("*b*b*b*b*b*b*b*b*", true),
+];
 
 #[test]
 fn many_stars_on_a_long_text(rt: HostRuntime) -> Result<(), Fail> {
@@ -80,8 +91,12 @@ fn many_stars_on_a_long_text(rt: HostRuntime) -> Result<(), Fail> {
     for _ in 0..20_000 {
         text.push('b')?;
     }
-    assert!(rt; !matches(rt.alloc(), "****a", text.as_str())?);
-    assert!(rt; !matches(rt.alloc(), "*b*b*b*b*b*b*b*b*a", text.as_str())?);
-    assert!(rt; matches(rt.alloc(), "*b*b*b*b*b*b*b*b*", text.as_str())?);
+    for (pattern, wanted) in MANY_STARS {
+        assert_eq!(rt;
+            matches(rt.alloc(), pattern, text.as_str())?,
+            *wanted,
+            "{pattern}"
+        );
+    }
     Ok(())
 }

@@ -1,5 +1,5 @@
 //! The report of a small plan, and of one whose listing has more bytes than a page.
-ghost use Rattle.std.specs.Prelude.{◌≡◌, Some};
+ghost use Rattle.std.specs.Prelude.{Some};
 
 use range_defs::{Claim, Range};
 use rx_ranges::{FillMap, ListKind, Listed, Listing, Plan, Text};
@@ -9,20 +9,24 @@ use std::alloc::{AllocError, Global};
 use std::test::Fail;
 use text_defs::ReportState;
 
-fn claim(at: u64, len: u64, rule: u32, fill: u8) -> Claim
-    ensures { result ≡ record { range = record { at = at; len = len }; rule = rule; fill = fill } }
-{
-    let range = Range { at, len };
-    Claim { range, rule, fill }
-}
-
 fn listed(alloc: Global, kind: ListKind, rule: u32, path: &str) -> Result<Listed, AllocError> {
     let path = Text::from_str(alloc, path)?;
     Ok(Listed { kind, rule, path })
 }
 
 fn plan(alloc: Global) -> Result<Plan, AllocError> {
-    let claims = vec![in alloc; claim(86016, 1, 2, 0x31), claim(86017, 2, 3, 0xAF)]?;
+    let claims = vec![in alloc;
+        Claim {
+            range: Range { at: 86016, len: 1 },
+            rule: 2,
+            fill: 0x31,
+        },
+        Claim {
+            range: Range { at: 86017, len: 2 },
+            rule: 3,
+            fill: 0xAF,
+        },
+    ]?;
     let lines = vec![in alloc;
         listed(alloc, ListKind::File, 3, "/a")?,
         listed(alloc, ListKind::Alias, 0, "/b")?,
@@ -53,38 +57,17 @@ impl Sink for CountingSink {
     }
 }
 
-/// The text behind the first line.
 const TEXT: &str =
-    "image 262144\nranges 2\nbytes 3\nRANGE 86016 1 2 0x31\nRANGE 86017 2 3 0xAF\nFILE 3 /a\nALIAS /b\nFILE 2 /c\n";
-
-#[test]
-fn each_state_has_its_report(rt: HostRuntime) -> Result<(), Fail> {
-    let plan = plan(rt.alloc())?;
-    let states = [
-        (ReportState::Planned, "redaction planned\n"),
-        (ReportState::Pending, "redaction pending\n"),
-        (ReportState::Done, "redaction done\n"),
-    ];
-    for (state, first) in states {
-        let mut sink = MemSink::new(rt.alloc(), 200)?;
-        assert_eq!(rt; write_report(&mut sink, &plan, state), Ok(()));
-        let text = format!(in rt.alloc(); "{first}{TEXT}")?;
-        assert_eq!(rt; sink.bytes(), text.as_bytes());
-    }
-    Ok(())
-}
+    "redaction done\nimage 262144\nranges 2\nbytes 3\nRANGE 86016 1 2 0x31\nRANGE 86017 2 3 0xAF\nFILE 3 /a\nALIAS /b\nFILE 2 /c\n";
 
 #[test]
 fn a_sink_without_room_took_the_first_bytes(rt: HostRuntime) -> Result<(), Fail> {
     let plan = plan(rt.alloc())?;
-    let text = format!(in rt.alloc(); "redaction done\n{TEXT}")?;
-    for room in 0..text.len() {
+    for room in 0..=TEXT.len() {
         let mut sink = MemSink::new(rt.alloc(), room)?;
-        assert_eq!(rt;
-            write_report(&mut sink, &plan, ReportState::Done),
-            Err(Fault)
-        );
-        assert_eq!(rt; sink.bytes(), &text.as_bytes()[..room]);
+        let written = write_report(&mut sink, &plan, ReportState::Done);
+        assert_eq!(rt; written.is_ok(), room == TEXT.len());
+        assert_eq!(rt; sink.bytes(), &TEXT.as_bytes()[..room]);
     }
     Ok(())
 }

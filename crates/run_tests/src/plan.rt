@@ -75,7 +75,7 @@ pub(crate) fn answers(rt: &impl Abort, found: (Status, Vec<u8>), status: Status,
 const PLANNED: &[(&[Edit<'static>], &[u8], &[u8])] = &[
     (&[], RULE, REPORT),
     (&[], b"FILENAME \"a\" FILL 0x58\n", REPORT),
-    (&[], b"FILENAME \"b\" FILL 0xfF\n", NOTHING),
+    (&[], b"FILENAME \"a.b\" FILL 0xfF\n", NOTHING),
     // an empty root, a name with a slash, and a root without files
     (&[Edit::Bytes(ROOT + 16, b"\x00\x00")], RULE, NOTHING),
     (&[Edit::Bytes(ENTRIES + 32, b"/")], RULE, NOTHING),
