@@ -17,6 +17,3 @@ mod node;
 mod way;
 
 pub use leaves::{LeafRecord, Leaves};
-
-#[cfg(test)]
-mod tests;

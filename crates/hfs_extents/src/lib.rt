@@ -20,6 +20,3 @@ mod records;
 
 pub use fork::ForkPieces;
 pub use overflow::{Overflow, fork_pieces};
-
-#[cfg(test)]
-mod tests;

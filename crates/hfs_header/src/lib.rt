@@ -99,6 +99,3 @@ pub fn read_header<S: Store>(store: &mut S, at: u64, len: u64) -> Result<Header,
 {
     read_fields(store, at, len)
 }
-
-#[cfg(test)]
-mod tests;

@@ -18,8 +18,6 @@ ghost use Rattle.image_reader.specs.Says.{IsImageCounted, TellsTree};
 
 mod fault;
 mod kind;
-#[cfg(test)]
-mod tests;
 
 pub use fault::ImageFault;
 use kind::is_other_kind;

@@ -67,6 +67,3 @@ pub fn bytes_at<S: Store>(
     look_at(store, at, &mut bytes, looked)?;
     Ok(bytes)
 }
-
-#[cfg(test)]
-mod tests;

@@ -27,6 +27,3 @@ pub use open::stands_open;
 pub use piece::{Cursor, journal_len, journal_piece, journal_piece_from};
 pub use read::read_journal;
 pub use state::{JournalState, Marks};
-
-#[cfg(test)]
-mod tests;

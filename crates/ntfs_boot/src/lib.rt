@@ -10,8 +10,6 @@
 #![tactic(auto)]
 
 pub(crate) mod sector;
-#[cfg(test)]
-mod tests;
 
 ghost use Rattle.std.specs.Prelude.{◌≡◌, ◌+◌, ◌≤◌, length, IfOk, IfErr, IfSome};
 ghost use Rattle.disk_defs.specs.Count.{IsCountedIn};

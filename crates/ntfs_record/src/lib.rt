@@ -14,8 +14,6 @@ mod attrs;
 mod ends;
 mod mend;
 mod record;
-#[cfg(test)]
-mod tests;
 mod walk;
 
 pub use attr::{Attr, Form};

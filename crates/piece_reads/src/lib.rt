@@ -75,6 +75,3 @@ pub fn read_pieces<S: Store>(
     }
     Ok(())
 }
-
-#[cfg(test)]
-mod tests;

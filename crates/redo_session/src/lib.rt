@@ -19,6 +19,3 @@ pub use whole::finish;
 
 /// Memory ran out.
 pub type NoMemory = std::alloc::AllocError;
-
-#[cfg(test)]
-mod tests;

@@ -12,9 +12,6 @@
 ghost use Rattle.std.specs.Prelude.{◌≡◌};
 ghost use Rattle.rx_time.specs.Moments.{filetime_moment, unix_moment, hfs_moment};
 
-#[cfg(test)]
-mod tests;
-
 /// The ticks of a FILETIME in a second.
 const TICKS: u64 = 10_000_000;
 

@@ -22,6 +22,3 @@ pub use blocks::{Blocks, blocks_of};
 pub use laid::{Laid, Parted};
 pub use parts::inode_parts;
 pub use streams::content_blocks;
-
-#[cfg(test)]
-mod tests;

@@ -15,6 +15,3 @@ mod entry;
 
 pub use block::leading_entries;
 pub use entry::Entry;
-
-#[cfg(test)]
-mod tests;

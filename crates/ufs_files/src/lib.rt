@@ -22,6 +22,3 @@ mod tree;
 mod volume;
 
 pub use volume::read_ufs;
-
-#[cfg(test)]
-mod tests;

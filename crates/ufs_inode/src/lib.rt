@@ -19,6 +19,3 @@ mod tested;
 
 pub use block::InodeBlock;
 pub use read::{look_at_inode, read_inode};
-
-#[cfg(test)]
-mod tests;

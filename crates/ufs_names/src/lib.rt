@@ -28,6 +28,3 @@ pub use kept::KeptInode;
 pub use name::Name;
 pub use root::read_names;
 pub use walk::Walk;
-
-#[cfg(test)]
-mod tests;

@@ -19,6 +19,3 @@ pub use read::{look_for_super, read_bytes, read_super};
 pub use sizes::{
     allocated_len, block_count, block_size, content_len, fragment_size, pointer_len, span,
 };
-
-#[cfg(test)]
-mod tests;
