@@ -1,6 +1,5 @@
 //! Inodes of a UFS1 and of a UFS2, at places worked out by the macros, and a device that fails.
-use crate::bytes::{Written, with};
-use crate::ufs_volume::volume;
+use crate::ufs_volumes::{ufs1, ufs2};
 use range_defs::Range;
 use rx_store::{MemStore, ReadFault, Sort, What};
 use std::test::Fail;
@@ -9,7 +8,7 @@ use ufs_super::read_super;
 
 #[test]
 fn the_fields_are_those_of_the_inode(rt: HostRuntime) -> Result<(), Fail> {
-    let mut store = MemStore::of_image(rt.alloc(), &volume())?;
+    let mut store = MemStore::of_image(rt.alloc(), &ufs1())?;
     let sup = read_super(&mut store, 0, 49_664)?;
     let mut looked = Vec::new(rt.alloc());
     let mut block = InodeBlock::new(rt.alloc())?;
@@ -26,7 +25,7 @@ fn the_fields_are_those_of_the_inode(rt: HostRuntime) -> Result<(), Fail> {
 
 #[test]
 fn what_is_wrong_is_told_with_its_place(rt: HostRuntime) -> Result<(), Fail> {
-    let mut store = MemStore::of_image(rt.alloc(), &volume())?;
+    let mut store = MemStore::of_image(rt.alloc(), &ufs1())?;
     let sup = read_super(&mut store, 0, 49_664)?;
     assert_eq!(rt;
         [
@@ -45,7 +44,7 @@ fn what_is_wrong_is_told_with_its_place(rt: HostRuntime) -> Result<(), Fail> {
 
 #[test]
 fn a_block_of_the_table_is_read_once(rt: HostRuntime) -> Result<(), Fail> {
-    let mut store = MemStore::of_image(rt.alloc(), &volume())?;
+    let mut store = MemStore::of_image(rt.alloc(), &ufs1())?;
     let sup = read_super(&mut store, 0, 49_664)?;
     store.fail_at(vec![in rt.alloc(); 4]?);
     let mut looked = Vec::new(rt.alloc());
@@ -69,7 +68,7 @@ fn a_block_of_the_table_is_read_once(rt: HostRuntime) -> Result<(), Fail> {
 
 #[test]
 fn a_device_that_fails_is_told(rt: HostRuntime) -> Result<(), Fail> {
-    let mut store = MemStore::of_image(rt.alloc(), &volume())?;
+    let mut store = MemStore::of_image(rt.alloc(), &ufs1())?;
     store.fail_at(vec![in rt.alloc(); 3]?);
     let sup = read_super(&mut store, 0, 49_664)?;
     assert_eq!(rt;
@@ -81,29 +80,18 @@ fn a_device_that_fails_is_told(rt: HostRuntime) -> Result<(), Fail> {
     Ok(())
 }
 
-/// A UFS2 of 48 fragments of 4,096 bytes, eight to a block, whose inodes begin at fragment 20.
-const UFS2: &[Written] = &[
-    // struct fs at 65,536
-    (65_552, &[20]),
-    (65_580, &[1, 0, 0, 0, 0, 128, 0, 0, 0, 16, 0, 0, 8]),
-    (65_652, &[0, 16, 0, 0, 128]),
-    (65_720, &[128, 0, 0, 0, 48]),
-    (66_908, &[0x19, 0x01, 0x54, 0x19]),
-    // struct ufs2_dinode of inode 3, at 81,920 + 3 * 256: its mode, owner, size, birth and first pointer
-    (82_688, &[0xA4, 0x81]),
-    (82_692, &[3]),
-    (82_704, &[5]),
-    (82_744, &[6]),
-    (82_800, &[9]),
-];
-
 #[test]
 fn the_fields_are_those_of_a_ufs2_inode(rt: HostRuntime) -> Result<(), Fail> {
-    let bytes: [u8; 196_608] = with(UFS2);
-    let mut store = MemStore::of_image(rt.alloc(), &bytes)?;
+    let mut store = MemStore::of_image(rt.alloc(), &ufs2())?;
     let sup = read_super(&mut store, 0, 196_608)?;
     let inode = read_inode(&mut store, &sup, 3, 7)?;
-    assert_eq!(rt; (inode.mode, inode.uid, inode.size), (0o100_644, 3, 5));
-    assert_eq!(rt; (inode.birth, inode.direct[0]), (6, 9));
+    assert_eq!(rt;
+        (inode.mode, inode.uid, inode.size),
+        (0o100_644, 3, 393_217)
+    );
+    assert_eq!(rt;
+        (inode.birth, inode.direct[11], inode.indirect[0]),
+        (6, 24, 32)
+    );
     Ok(())
 }

@@ -39,4 +39,4 @@ mod superblocks;
 #[cfg(test)]
 mod trees;
 #[cfg(test)]
-mod ufs_volume;
+mod ufs_volumes;

@@ -1,6 +1,6 @@
 //! The names of a UFS1, and inodes that are kept.
 use crate::bytes::put;
-use crate::ufs_volume::volume;
+use crate::ufs_volumes::ufs1;
 use range_defs::Range;
 use rx_store::{MemStore, ReadFault, Sort};
 use std::mem::size_of;
@@ -11,7 +11,7 @@ use ufs_super::read_super;
 
 #[test]
 fn names_come_breadth_first(rt: HostRuntime) -> Result<(), Fail> {
-    let mut store = MemStore::of_image(rt.alloc(), &volume())?;
+    let mut store = MemStore::of_image(rt.alloc(), &ufs1())?;
     let sup = read_super(&mut store, 0, 49_664)?;
     let mut looked = Vec::new(rt.alloc());
     let walk = read_names(rt.alloc(), &mut store, &sup, &mut looked)?;
@@ -36,7 +36,7 @@ fn names_come_breadth_first(rt: HostRuntime) -> Result<(), Fail> {
 
 #[test]
 fn the_root_has_no_other_name(rt: HostRuntime) -> Result<(), Fail> {
-    let mut bytes = volume();
+    let mut bytes = ufs1();
     put(&mut bytes, 20_992, &[2]);
     let mut store = MemStore::of_image(rt.alloc(), &bytes)?;
     let sup = read_super(&mut store, 0, 49_664)?;
@@ -51,7 +51,7 @@ fn the_root_has_no_other_name(rt: HostRuntime) -> Result<(), Fail> {
 
 #[test]
 fn a_read_that_fails_in_mid_walk_is_told(rt: HostRuntime) -> Result<(), Fail> {
-    let mut store = MemStore::of_image(rt.alloc(), &volume())?;
+    let mut store = MemStore::of_image(rt.alloc(), &ufs1())?;
     let sup = read_super(&mut store, 0, 49_664)?;
     store.fail_at(vec![in rt.alloc(); 5]?);
     let mut looked = Vec::new(rt.alloc());

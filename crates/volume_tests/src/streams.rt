@@ -1,5 +1,6 @@
 //! The blocks of a file behind its twelfth, in a UFS2, and in fragments, in a UFS1.
 use crate::bytes::{Written, put, with};
+use crate::ufs_volumes::ufs2;
 use range_defs::Range;
 use rx_ranges::{Piece, PieceKind};
 use rx_store::{MemStore, ReadFault, Sort};
@@ -8,29 +9,6 @@ use std::test::Fail;
 use ufs_blocks::{Blocks, blocks_of};
 use ufs_inode::read_inode;
 use ufs_super::read_super;
-
-/// A UFS2 of 48 fragments of 4,096 bytes, with blocks of 32,768, whose inodes begin at fragment 20. Inode 3 has 393,217 bytes: all
-/// of its first twelve blocks are that at fragment 24, and the first pointer of its block of pointers, at fragment 32, leads to
-/// fragment 40.
-const VOLUME: &[Written] = &[
-    // struct fs at 65,536
-    (65_552, &[20]),
-    (65_580, &[1, 0, 0, 0, 0, 128, 0, 0, 0, 16, 0, 0, 8]),
-    (65_652, &[0, 16, 0, 0, 128]),
-    (65_720, &[128, 0, 0, 0, 48]),
-    (66_908, &[0x19, 0x01, 0x54, 0x19]),
-    // struct ufs2_dinode of inode 3, at 81,920 + 3 * 256: mode 0100644, size 0x060001
-    (82_688, &[0xA4, 0x81]),
-    (82_704, &[1, 0, 6]),
-    (82_800, &[24, 0, 0, 0, 0, 0, 0, 0, 24, 0, 0, 0, 0, 0, 0, 0]),
-    (82_816, &[24, 0, 0, 0, 0, 0, 0, 0, 24, 0, 0, 0, 0, 0, 0, 0]),
-    (82_832, &[24, 0, 0, 0, 0, 0, 0, 0, 24, 0, 0, 0, 0, 0, 0, 0]),
-    (82_848, &[24, 0, 0, 0, 0, 0, 0, 0, 24, 0, 0, 0, 0, 0, 0, 0]),
-    (82_864, &[24, 0, 0, 0, 0, 0, 0, 0, 24, 0, 0, 0, 0, 0, 0, 0]),
-    (82_880, &[24, 0, 0, 0, 0, 0, 0, 0, 24, 0, 0, 0, 0, 0, 0, 0]),
-    (82_896, &[32]),
-    (131_072, &[40]),
-];
 
 /// A UFS1 of 64 fragments of 1,024 bytes, four to a block, whose inodes begin at fragment 18. Inode 3 has one byte, in fragment 28.
 const FRAGMENTS: &[Written] = &[
@@ -56,8 +34,7 @@ fn blocks_in(alloc: Global, volume: &[u8]) -> Result<Blocks, ReadFault> {
 
 #[test]
 fn blocks_behind_the_twelfth_are_found(rt: HostRuntime) -> Result<(), Fail> {
-    let volume: [u8; 196_608] = with(VOLUME);
-    let blocks = blocks_in(rt.alloc(), &volume)?;
+    let blocks = blocks_in(rt.alloc(), &ufs2())?;
     let parts = blocks.parts.items();
     assert_eq!(rt; parts.len(), 1);
     let content = &parts[0];
@@ -102,7 +79,7 @@ fn a_ufs1_has_slack_up_to_the_end_of_the_fragment(rt: HostRuntime) -> Result<(),
 #[test]
 fn a_pointer_out_of_the_volume_is_damage(rt: HostRuntime) -> Result<(), Fail> {
     for (at, byte, place) in [(82_807, 0x80, 82_800), (131_072, 41, 131_072)] {
-        let mut volume: [u8; 196_608] = with(VOLUME);
+        let mut volume = ufs2();
         put(&mut volume, at, &[byte]);
         assert_eq!(rt;
             blocks_in(rt.alloc(), &volume).err(),

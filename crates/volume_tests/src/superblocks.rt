@@ -1,6 +1,6 @@
 //! The superblock of a UFS1, and a device that fails at each call.
 use crate::bytes::put;
-use crate::ufs_volume::volume;
+use crate::ufs_volumes::ufs1;
 use range_defs::Range;
 use rx_store::{MemStore, ReadFault, Sort};
 use std::test::Fail;
@@ -8,7 +8,7 @@ use ufs_super::{look_for_super, read_super, stated_block_size};
 
 #[test]
 fn the_fields_are_those_of_the_superblock(rt: HostRuntime) -> Result<(), Fail> {
-    let mut store = MemStore::of_image(rt.alloc(), &volume())?;
+    let mut store = MemStore::of_image(rt.alloc(), &ufs1())?;
     let sup = read_super(&mut store, 0, 49_664)?;
     assert_eq!(rt; stated_block_size(&sup), 4096);
     assert_eq!(rt; (sup.ncg, sup.ipg, sup.fpg), (2, 32, 64));
@@ -25,7 +25,7 @@ fn the_fields_are_those_of_the_superblock(rt: HostRuntime) -> Result<(), Fail> {
 
 #[test]
 fn a_group_without_inodes_is_damage(rt: HostRuntime) -> Result<(), Fail> {
-    let mut bytes = volume();
+    let mut bytes = ufs1();
     put(&mut bytes, 8376, &[0]);
     let mut store = MemStore::of_image(rt.alloc(), &bytes)?;
     assert_eq!(rt;
@@ -37,7 +37,7 @@ fn a_group_without_inodes_is_damage(rt: HostRuntime) -> Result<(), Fail> {
 
 #[test]
 fn the_probes_and_the_superblock_are_kept(rt: HostRuntime) -> Result<(), Fail> {
-    let mut store = MemStore::of_image(rt.alloc(), &volume())?;
+    let mut store = MemStore::of_image(rt.alloc(), &ufs1())?;
     let mut looked = Vec::new(rt.alloc());
     look_for_super(&mut store, 0, 9568, &mut looked)?;
     let kept = [
@@ -57,7 +57,7 @@ fn the_probes_and_the_superblock_are_kept(rt: HostRuntime) -> Result<(), Fail> {
 #[test]
 fn a_device_that_fails_is_told(rt: HostRuntime) -> Result<(), Fail> {
     for call in 1..3 {
-        let mut store = MemStore::of_image(rt.alloc(), &volume())?;
+        let mut store = MemStore::of_image(rt.alloc(), &ufs1())?;
         store.fail_at(vec![in rt.alloc(); call]?);
         assert_eq!(rt;
             read_super(&mut store, 0, 9568).err(),

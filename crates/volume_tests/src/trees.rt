@@ -1,5 +1,5 @@
 //! The tree of a UFS1.
-use crate::ufs_volume::volume;
+use crate::ufs_volumes::ufs1;
 use range_defs::Range;
 use rx_store::{MemStore, ReadFault};
 use rx_time::Moment;
@@ -33,7 +33,7 @@ const GUARD: [Range; 6] = [
 
 #[test]
 fn a_volume_is_read(rt: HostRuntime) -> Result<(), Fail> {
-    let mut store = MemStore::of_image(rt.alloc(), &volume())?;
+    let mut store = MemStore::of_image(rt.alloc(), &ufs1())?;
     let tree = read_ufs(rt.alloc(), &mut store, 0, 49_664, 7)?;
     assert_eq!(rt; tree.guard.items(), GUARD.as_slice());
     let files = tree.files.items();
@@ -54,7 +54,7 @@ fn a_volume_is_read(rt: HostRuntime) -> Result<(), Fail> {
 
 #[test]
 fn no_volume_is_found(rt: HostRuntime) -> Result<(), Fail> {
-    let mut store = MemStore::of_image(rt.alloc(), &volume())?;
+    let mut store = MemStore::of_image(rt.alloc(), &ufs1())?;
     let found = read_ufs(rt.alloc(), &mut store, 1, 17_407, 0);
     assert_eq!(rt; found.err(), Some(ReadFault::NotThis));
     Ok(())

@@ -1,10 +1,10 @@
-//! A UFS1 of 49,664 bytes, and its superblock as it is read.
+//! A UFS1 of 49,664 bytes and a UFS2 of 196,608.
 use crate::bytes::{Written, with};
 
 /// Two groups of 32 inodes and 64 fragments of 512 bytes, eight to a block. Fragment f stands at byte 512 * f, and inode n of the first
 /// group at 24 * 512 + 128 * n. The second group's inodes begin 8 fragments later than those of the first in their groups: inode 34
 /// stands at (64 + 8 + 24) * 512 + 2 * 128.
-const VOLUME: &[Written] = &[
+const UFS1: &[Written] = &[
     // struct fs at 8,192: the first fragment of the inodes, the step and the mask of the groups' places
     (8208, &[24]),
     (8216, &[8, 0, 0, 0, 0xFE, 0xFF, 0xFF, 0xFF]),
@@ -39,6 +39,33 @@ const VOLUME: &[Written] = &[
     (20_992, &[3, 0, 0, 0, 0, 2, 0, 1, b'b']),
 ];
 
-pub(crate) fn volume() -> [u8; 49_664] {
-    with(VOLUME)
+pub(crate) fn ufs1() -> [u8; 49_664] {
+    with(UFS1)
+}
+
+/// 48 fragments of 4,096 bytes, eight to a block, whose inodes begin at fragment 20. Inode 3 has 393,217 bytes: all of its first
+/// twelve blocks are that at fragment 24, and the first pointer of its block of pointers, at fragment 32, leads to fragment 40.
+const UFS2: &[Written] = &[
+    // struct fs at 65,536
+    (65_552, &[20]),
+    (65_580, &[1, 0, 0, 0, 0, 128, 0, 0, 0, 16, 0, 0, 8]),
+    (65_652, &[0, 16, 0, 0, 128]),
+    (65_720, &[128, 0, 0, 0, 48]),
+    (66_908, &[0x19, 0x01, 0x54, 0x19]),
+    // struct ufs2_dinode of inode 3, at 81,920 + 3 * 256: mode 0100644, owner 3, size 0x060001, born in second 6
+    (82_688, &[0xA4, 0x81, 0, 0, 3]),
+    (82_704, &[1, 0, 6]),
+    (82_744, &[6]),
+    (82_800, &[24, 0, 0, 0, 0, 0, 0, 0, 24, 0, 0, 0, 0, 0, 0, 0]),
+    (82_816, &[24, 0, 0, 0, 0, 0, 0, 0, 24, 0, 0, 0, 0, 0, 0, 0]),
+    (82_832, &[24, 0, 0, 0, 0, 0, 0, 0, 24, 0, 0, 0, 0, 0, 0, 0]),
+    (82_848, &[24, 0, 0, 0, 0, 0, 0, 0, 24, 0, 0, 0, 0, 0, 0, 0]),
+    (82_864, &[24, 0, 0, 0, 0, 0, 0, 0, 24, 0, 0, 0, 0, 0, 0, 0]),
+    (82_880, &[24, 0, 0, 0, 0, 0, 0, 0, 24, 0, 0, 0, 0, 0, 0, 0]),
+    (82_896, &[32]),
+    (131_072, &[40]),
+];
+
+pub(crate) fn ufs2() -> [u8; 196_608] {
+    with(UFS2)
 }
